@@ -1,0 +1,4 @@
+pub mod BitLaws
+pub mod NumberLaws
+pub mod CrcLaws
+pub mod ByteTable

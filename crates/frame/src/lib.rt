@@ -1,0 +1,5 @@
+// Frames: what a node says at once on the bus.
+mod frame;
+mod frames;
+
+pub use frame::Frame;

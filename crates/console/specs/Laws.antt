@@ -1,0 +1,84 @@
+-- What holds of texts and refusals, in the words of whoever types them. Each is a statement, a type; src/laws.rt has a
+-- function for each, whose contract is that statement, so that the crate is accepted only with its proof. Assumes nothing.
+--
+--   Spaced-words       a text's words with single spaces between them are the text
+--   Words-spaced       words without a space in them, with single spaces between them, are cut apart into these words
+--   typed d ds         the command `letter` as it is typed, with the digits d for the name and the digits ds for the bytes
+--   Typed-is-read      a letter that is typed, with any digits, is read as the letter of the numbers that they write
+--   Read-was-typed     what is read as a letter was typed so
+--   Good n bs          a name of at most 2047 and at most eight bytes, none above 255
+--   Good-or-refused    a letter is good if and only if it is not refused
+--   Refused-in-order   a name that is too large is refused at 0; else too many bytes at their number; else the first byte
+--                      that is too large at its place
+--   Refused-same       what is refused changes nothing
+--   Examples           some lines, and what they say or why they are refused
+use mathlib.Core.Bool.{true}
+use mathlib.Core.List.{List, [], _∷_, _++_, map}
+use mathlib.Core.Path.{_≡_}
+use Prim.Native.Nat.{ℕ, _≤_, _<_}
+use lib.Chars.{codes}
+use lib.ListN.{length, getD}
+use Rattle.std.specs.declared.option.Option.the-variants.{Some, None}
+use Rattle.std.specs.shelf.Lists.{All}
+use Rattle.console.specs.Numeral.{numeral, value}
+use Rattle.console.specs.Reading.{Reading, reading, blank, letter, unreadable}
+use Rattle.console.specs.Refusals.{bad-letter, refusal}
+use Rattle.console.specs.Sessions.{State, after}
+use Rattle.console.specs.Words.{words, spaced}
+use Rattle.console.specs.declared.refusal.Refusal.{Refusal}
+use Rattle.console.specs.declared.refusal.Refusal.the-variants.{BadLetter, Unreadable}
+
+abbrev pub Spaced-words : Type 0
+Spaced-words = (t : List ℕ) → spaced (words t) ≡ t
+
+abbrev pub Unspaced : List ℕ → Type 0
+Unspaced w = All (λ c. c ≡ 32 → ⊥) w
+
+abbrev pub Words-spaced : Type 0
+Words-spaced = (w : List ℕ) (ws : List (List ℕ)) → Unspaced w → All Unspaced ws → words (spaced (w ∷ ws)) ≡ w ∷ ws
+
+unfoldable pub typed : List ℕ → List (List ℕ) → List ℕ
+typed d ds = spaced (codes "letter" ∷ ((d ++ codes ":") ∷ ds))
+
+abbrev pub IsNumeral : List ℕ → Type 0
+IsNumeral w = numeral w ≡ true
+
+abbrev pub Typed-is-read : Type 0
+Typed-is-read = (d : List ℕ) (ds : List (List ℕ)) → IsNumeral d → All IsNumeral ds → reading (typed d ds) ≡ letter (value d) (map value ds)
+
+abbrev pub Read-was-typed : Type 0
+Read-was-typed =
+    (t : List ℕ) (n : ℕ) (bs : List ℕ) → reading t ≡ letter n bs →
+    (d : List ℕ) × (ds : List (List ℕ)) × IsNumeral d × All IsNumeral ds × (t ≡ typed d ds) × (n ≡ value d) × (bs ≡ map value ds)
+
+pub record Good (n : ℕ) (bs : List ℕ) : Type 0 where
+  pub name : n ≤ 2047
+  pub few : length bs ≤ 8
+  pub bytes : All (λ x. x ≤ 255) bs
+
+abbrev pub Good-or-refused : Type 0
+Good-or-refused = (n : ℕ) (bs : List ℕ) → (Good n bs → bad-letter n bs ≡ None) × (bad-letter n bs ≡ None → Good n bs)
+
+pub record In-order (n : ℕ) (bs : List ℕ) : Type 0 where
+  pub name : 2047 < n → bad-letter n bs ≡ Some (BadLetter 0)
+  pub few : n ≤ 2047 → 8 < length bs → bad-letter n bs ≡ Some (BadLetter (length bs))
+  pub byte : (i : ℕ) → n ≤ 2047 → length bs ≤ 8 → i < length bs → 255 < getD bs i 0 → ((j : ℕ) → j < i → getD bs j 0 ≤ 255) → bad-letter n bs ≡ Some (BadLetter i)
+
+abbrev pub Refused-in-order : Type 0
+Refused-in-order = (n : ℕ) (bs : List ℕ) → In-order n bs
+
+abbrev pub Refused-same : Type 0
+Refused-same = (line : ℕ) (r : Reading) (k : State) (x : Refusal) → refusal line r ≡ Some x → after r k ≡ k
+
+pub record Examples : Type 0 where
+  pub empty : reading [] ≡ blank
+  pub plain : reading (codes "letter 5: 1") ≡ letter 5 (1 ∷ [])
+  pub no-bytes : reading (codes "letter 0:") ≡ letter 0 []
+  pub noughts : reading (codes "letter 0005: 007 255") ≡ letter 5 (7 ∷ 255 ∷ [])
+  pub two-spaces : reading (codes "letter 5:  1") ≡ unreadable
+  pub space-behind : reading (codes "letter 5: ") ≡ unreadable
+  pub no-colon : reading (codes "letter 5 1") ≡ unreadable
+  pub large-name : refusal 7 (reading (codes "letter 2048: 256")) ≡ Some (BadLetter 0)
+  pub nine-bytes : refusal 7 (reading (codes "letter 2047: 1 2 3 4 5 6 7 8 256")) ≡ Some (BadLetter 9)
+  pub large-byte : refusal 7 (reading (codes "letter 5: 1 256 257")) ≡ Some (BadLetter 1)
+  pub no-command : refusal 7 (reading (codes "lettre 5: 1")) ≡ Some (Unreadable 7)

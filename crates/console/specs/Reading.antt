@@ -1,0 +1,62 @@
+-- What a line of text says to the console. A line is blank, or it is the command `letter`, as in `letter 5: 1 2 3`: a name
+-- with a colon, and any number of bytes; any other line can't be read. Whether the letter is good is asked later.
+-- Assumes nothing: these are definitions.
+--
+--   Reading            what a line says
+--   reading t          what the line t says
+--   before-colon w     what stands before the colon that ends the word w, or nothing where no colon ends it
+--   numbers ws         the numbers that the words ws are, or nothing where one of them is no number
+use mathlib.Core.Bool.{cond}
+use mathlib.Core.List.{List, [], _∷_}
+use Prim.Native.Nat.{ℕ}
+use lib.Chars.{codes}
+use lib.Dec.{eqb}
+use Rattle.std.specs.Options.{mapped}
+use Rattle.std.specs.declared.option.Option.{Option}
+use Rattle.std.specs.declared.option.Option.the-variants.{Some, None}
+use Rattle.std.specs.shelf.Text.{sameBytes}
+use Rattle.console.specs.Numeral.{number-in}
+use Rattle.console.specs.Words.{words}
+
+pub data Reading : Type 0 where
+  blank : Reading
+  letter : (name : ℕ) → (bytes : List ℕ) → Reading
+  unreadable : Reading
+
+unfoldable pub before-colon : List ℕ → Option (List ℕ)
+before-colon [] = None
+before-colon (c ∷ []) = cond (eqb c 58) (Some []) None
+before-colon (c ∷ d ∷ w) = mapped (λ front. c ∷ front) (before-colon (d ∷ w))
+
+-- the number in a text that may be missing
+unfoldable pub number-of : Option (List ℕ) → Option ℕ
+number-of None = None
+number-of (Some w) = number-in w
+
+-- a number in front of numbers, each of which may be missing
+unfoldable pub in-front : Option ℕ → Option (List ℕ) → Option (List ℕ)
+in-front None ns = None
+in-front (Some n) ns = mapped (λ rest. n ∷ rest) ns
+
+unfoldable pub numbers : List (List ℕ) → Option (List ℕ)
+numbers [] = Some []
+numbers (w ∷ ws) = in-front (number-in w) (numbers ws)
+
+-- a letter, if its name and its bytes could be read
+unfoldable pub letter-of : Option ℕ → Option (List ℕ) → Reading
+letter-of None bytes = unreadable
+letter-of (Some name) None = unreadable
+letter-of (Some name) (Some bytes) = letter name bytes
+
+-- what stands behind the word `letter`
+unfoldable pub letter-words : List (List ℕ) → Reading
+letter-words [] = unreadable
+letter-words (w ∷ ws) = letter-of (number-of (before-colon w)) (numbers ws)
+
+unfoldable pub command-words : List (List ℕ) → Reading
+command-words [] = unreadable
+command-words (w ∷ ws) = cond (sameBytes w (codes "letter")) (letter-words ws) unreadable
+
+unfoldable pub reading : List ℕ → Reading
+reading [] = blank
+reading (c ∷ cs) = command-words (words (c ∷ cs))

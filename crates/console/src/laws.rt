@@ -1,0 +1,34 @@
+// The laws of texts and refusals: each function's contract is one of them, and it does nothing else.
+ghost use Rattle.console.specs.Laws.{Spaced-words, Words-spaced, Typed-is-read, Read-was-typed, Good-or-refused, Refused-in-order, Refused-same, Examples};
+
+pub fn spaced_words()
+    ensures { λ _. ⌜ Spaced-words ⌝ }
+{}
+
+pub fn words_spaced()
+    ensures { λ _. ⌜ Words-spaced ⌝ }
+{}
+
+pub fn typed_is_read()
+    ensures { λ _. ⌜ Typed-is-read ⌝ }
+{}
+
+pub fn read_was_typed()
+    ensures { λ _. ⌜ Read-was-typed ⌝ }
+{}
+
+pub fn good_or_refused()
+    ensures { λ _. ⌜ Good-or-refused ⌝ }
+{}
+
+pub fn refused_in_order()
+    ensures { λ _. ⌜ Refused-in-order ⌝ }
+{}
+
+pub fn refused_same()
+    ensures { λ _. ⌜ Refused-same ⌝ }
+{}
+
+pub fn examples()
+    ensures { λ _. ⌜ Examples ⌝ }
+{}

@@ -14,7 +14,7 @@ use lib.Pow.{pow-pos}
 use Rattle.std.proofs.shelf.Lists.{at-drop-more}
 use Rattle.bits.proofs.BitLaws.{bit-at-shr, bit-at-mod, bit-at-xor, length-bits-of, bits-of-xor}
 use Rattle.bits.specs.Bits.{bit-at, bits-of, bytes-bits, differ, turned}
-use Rattle.bits.specs.Crc.{doubled, crc-step, crc-from, crc, byte-step, crc-bytes}
+use Rattle.bits.specs.Crc.{polynomial, doubled, crc-step, crc-from, crc, byte-step, crc-bytes}
 
 -- ---- a row behind another, and the width of the check
 
@@ -39,7 +39,7 @@ doubled-lt c = mod-lt (2 * c) (pow-pos 15)
 pub crc-step-lt : (c : ℕ) (b : Bool) → crc-step c b < 2 ^ 15
 unfolding crc-step
 crc-step-lt c b =
-    cond-lt (differ b (bit-at c 14)) _ _ (2 ^ 15) (xor-lt 15 (doubled c) 17817 (doubled-lt c) (lit< tt)) (doubled-lt c)
+    cond-lt (differ b (bit-at c 14)) _ _ (2 ^ 15) (xor-lt 15 (doubled c) polynomial (doubled-lt c) (lit< tt)) (doubled-lt c)
 
 pub crc-from-lt : (c : ℕ) (bs : List Bool) → c < 2 ^ 15 → crc-from c bs < 2 ^ 15
 unfolding crc-from
@@ -85,9 +85,9 @@ cond-differ true true p = sym (xor-self p)
 cond-differ true false p = sym (xor-zero-r p)
 cond-differ false t p = refl
 
-crc-step-is : (c : ℕ) (b : Bool) → crc-step c b ≡ bitXor (doubled c) (cond (differ b (bit-at c 14)) 17817 0)
+crc-step-is : (c : ℕ) (b : Bool) → crc-step c b ≡ bitXor (doubled c) (cond (differ b (bit-at c 14)) polynomial 0)
 unfolding crc-step
-crc-step-is c b = cond-xor (differ b (bit-at c 14)) (doubled c) 17817
+crc-step-is c b = cond-xor (differ b (bit-at c 14)) (doubled c) polynomial
 
 pub crc-step-xor : (a b : ℕ) (s t : Bool) → crc-step (bitXor a b) (differ s t) ≡ bitXor (crc-step a s) (crc-step b t)
 crc-step-xor a b s t =
@@ -110,7 +110,7 @@ crc-step-own-bit : (c : ℕ) → crc-step c (bit-at c 14) ≡ doubled c
 unfolding crc-step differ
 crc-step-own-bit c = same (bit-at c 14)
   where
-    same : (b : Bool) → cond (differ b b) (bitXor (doubled c) 17817) (doubled c) ≡ doubled c
+    same : (b : Bool) → cond (differ b b) (bitXor (doubled c) polynomial) (doubled c) ≡ doubled c
     same true = refl
     same false = refl
 

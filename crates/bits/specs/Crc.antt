@@ -1,6 +1,7 @@
--- The check of a row of bits, 15 bits: the cyclic redundancy check that CAN has, CRC-15 with the polynomial 17817 (0x4599).
+-- The check of a row of bits, 15 bits: the cyclic redundancy check that CAN has, CRC-15.
 -- Assumes nothing: these are definitions.
 --
+--   polynomial         17817, in bits 100010110011001: what is left of CRC-15's polynomial without its highest bit
 --   doubled c          a check doubled, without what is then above 15 bits
 --   crc-step c b       the check c after one bit more: b is compared with the check's highest bit; the check is doubled,
 --                      and if the two were unlike, the polynomial is added bit by bit without carrying
@@ -16,11 +17,14 @@ use lib.Bits.{bitXor}
 use lib.ListN.{length}
 use Rattle.bits.specs.Bits.{bit-at, bits-of, bytes-bits, differ}
 
+abbrev pub polynomial : ℕ
+polynomial = 17817
+
 unfoldable pub doubled : ℕ → ℕ
 doubled c = 2 * c % 2 ^ 15
 
 unfoldable pub crc-step : ℕ → Bool → ℕ
-crc-step c b = cond (differ b (bit-at c 14)) (bitXor (doubled c) 17817) (doubled c)
+crc-step c b = cond (differ b (bit-at c 14)) (bitXor (doubled c) polynomial) (doubled c)
 
 unfoldable pub crc-from : ℕ → List Bool → ℕ
 crc-from c [] = c

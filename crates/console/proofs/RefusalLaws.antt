@@ -7,10 +7,10 @@ use Prim.Native.Nat.{ℕ, zero, suc, _+_, _<_, _≤_}
 use native.Mathlib.Numerals.{add-one, suc-eq-add-one}
 use native.Mathlib.Omega.{arith}
 use borrow.Author.Tests.{lt-ltb, le-ltb}
-use lib.Dec.{ltb}
+use lib.Dec.{leb, ltb}
 use lib.ListN.{length, getD, drop}
 use Rattle.std.proofs.shelf.Lists.{at-drop-more, at-drop-all}
-use Rattle.std.proofs.shelf.Tests.{and-from, cond-true, le-leb, ltb-false}
+use Rattle.std.proofs.shelf.Tests.{and-from, and-parts, cond-true, le-leb, leb-true, ltb-false, ltb-true}
 use Rattle.std.specs.Options.{mapped}
 use Rattle.std.specs.declared.option.Option.{Option}
 use Rattle.std.specs.declared.option.Option.the-variants.{Some, None}
@@ -68,10 +68,20 @@ pub bad-bytes : (n : ℕ) (bs : List ℕ) → n ≤ 2047 → length bs ≤ 8 →
 unfolding bad-letter
 bad-bytes n bs h short = rw (le-ltb _ _ h, le-ltb _ _ short)
 
+-- ---- frames
+
+good-frame : (n : ℕ) (bs : List ℕ) → n ≤ 2047 → length bs ≤ 8 → good n bs ≡ true
+good-frame n bs small few = and-from _ _ (lt-ltb n 2048 (omega arith)) (le-leb (length bs) 8 few)
+
+frame-good : (n : ℕ) (bs : List ℕ) → good n bs ≡ true → (n ≤ 2047) × (length bs ≤ 8)
+frame-good n bs is =
+    let parts = and-parts (ltb n 2048) (leb (length bs) 8) is in
+    let below = ltb-true n 2048 (parts .0) in
+    (omega arith, leb-true (length bs) 8 (parts .1))
+
 -- a frame is made of a good letter
 pub frame-made : (n : ℕ) (bs : List ℕ) (made : Option Frame) → n ≤ 2047 → length bs ≤ 8 → mapped contents made ≡ cond (good n bs) (Some (n, bs)) None → (f : Frame) × (made ≡ Some f) × (contents f ≡ (n, bs))
-frame-made n bs made small few is =
-    mapped-some contents made (n, bs) (is ∙ cond-true _ _ _ (and-from _ _ (lt-ltb n 2048 (omega arith)) (le-leb (length bs) 8 few)))
+frame-made n bs made small few is = mapped-some contents made (n, bs) (is ∙ cond-true _ _ _ (good-frame n bs small few))
 
 -- ---- good, or refused
 
@@ -101,8 +111,8 @@ good-bytes i (x ∷ xs) good = bad-byte-good i x xs (good .0) ∙ good-bytes (i 
 
 pub good-or-refused : Good-or-refused
 good-or-refused n bs = (
-  λ good. bad-bytes n bs (good .name) (good .few) ∙ good-bytes 0 bs (good .bytes),
-  λ none. let parts = bad-letter-none n bs none in record { name = parts .0; few = parts .1; bytes = bytes-good 0 bs (parts .2) },
+  λ letter. let parts = frame-good n bs (letter .frame) in bad-bytes n bs (parts .0) (parts .1) ∙ good-bytes 0 bs (letter .bytes),
+  λ none. let parts = bad-letter-none n bs none in record { frame = good-frame n bs (parts .0) (parts .1); bytes = bytes-good 0 bs (parts .2) },
 )
 
 -- where the first bytes are good, the places before i have been passed

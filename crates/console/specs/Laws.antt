@@ -6,7 +6,7 @@
 --   typed d ds         the command `letter` as it is typed, with the digits d for the name and the digits ds for the bytes
 --   Typed-is-read      a letter that is typed, with any digits, is read as the letter of the numbers that they write
 --   Read-was-typed     what is read as a letter was typed so
---   Good n bs          a name of at most 2047 and at most eight bytes, none above 255
+--   Good n bs          a letter of which a good frame can be made, and none of its bytes is above 255
 --   Good-or-refused    a letter is good if and only if it is not refused
 --   Refused-in-order   a name that is too large is refused at 0; else too many bytes at their number; else the first byte
 --                      that is too large at its place
@@ -20,6 +20,7 @@ use lib.Chars.{codes}
 use lib.ListN.{length, getD}
 use Rattle.std.specs.declared.option.Option.the-variants.{Some, None}
 use Rattle.std.specs.shelf.Lists.{All}
+use Rattle.frame.specs.Good.{good}
 use Rattle.console.specs.Numeral.{numeral, value}
 use Rattle.console.specs.Reading.{Reading, reading, blank, letter, unreadable}
 use Rattle.console.specs.Refusals.{bad-letter, refusal}
@@ -52,8 +53,7 @@ Read-was-typed =
     (d : List ℕ) × (ds : List (List ℕ)) × IsNumeral d × All IsNumeral ds × (t ≡ typed d ds) × (n ≡ value d) × (bs ≡ map value ds)
 
 pub record Good (n : ℕ) (bs : List ℕ) : Type 0 where
-  pub name : n ≤ 2047
-  pub few : length bs ≤ 8
+  pub frame : good n bs ≡ true
   pub bytes : All (λ x. x ≤ 255) bs
 
 abbrev pub Good-or-refused : Type 0

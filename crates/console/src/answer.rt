@@ -50,7 +50,7 @@ impl Session {
     {
         match read_command(heap, line)? {
             Command::Blank => Ok(None),
-            Command::Letter(name, bytes) => Ok(self.letter(name, &bytes)),
+            Command::Letter { name, bytes } => Ok(self.letter(name, &bytes)),
             Command::Unreadable => Ok(Some(Refusal::Unreadable(place))),
         }
     }

@@ -17,12 +17,11 @@ const LETTER: &[u8] = b"letter";
 
 const COLON: &[u8] = b":";
 
-// What a line says. Its numbers are as they were written, and nothing is known of them yet.
+// What a line says. Nothing is known of its numbers yet, but that the largest of 64 bits stands for each larger one.
 #[derive(Drop)]
 pub enum Command {
     Blank,
-    // The letter's name, and its bytes.
-    Letter(u64, Vec<u64>),
+    Letter { name: u64, bytes: Vec<u64> },
     Unreadable,
 }
 
@@ -53,7 +52,7 @@ fn read_letter(heap: Global, text: Option<&[u8]>) -> Result<Command, AllocError>
         return Ok(Command::Unreadable);
     };
     match read_numbers(heap, cut.behind)? {
-        Some(bytes) => Ok(Command::Letter(name, bytes)),
+        Some(bytes) => Ok(Command::Letter { name, bytes }),
         None => Ok(Command::Unreadable),
     }
 }

@@ -4,6 +4,7 @@ ghost use Rattle.console.specs.Refusals.{Judged};
 use crate::refusal::Refusal;
 use frame::Frame;
 
+// The ranges of a letter's numbers. The first two are a frame's own: of what passes them a frame can be made.
 const LARGEST_NAME: u64 = 2047;
 
 const MOST_BYTES: usize = 8;

@@ -1,3 +1,4 @@
+pub mod Apart
 pub mod WordLaws
 pub mod NumeralLaws
 pub mod ReadingLaws

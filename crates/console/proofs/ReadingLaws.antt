@@ -3,22 +3,25 @@
 -- Assumes nothing.
 use mathlib.Core.Bool.{Bool, true, false, cond}
 use mathlib.Core.List.{List, [], _∷_, _++_, map, append-nil, append-assoc}
-use mathlib.Core.Path.{_≡_, refl, sym, ap, _∙_}
-use Prim.Native.Nat.{ℕ}
+use mathlib.Core.Path.{_≡_, refl, sym, ap, subst, _∙_}
+use Prim.Native.Nat.{ℕ, _+_, _<_, _≤_}
 use native.Mathlib.Omega.{arith}
 use borrow.Author.Tests.{eqb-true}
 use lib.Chars.{codes}
 use lib.Dec.{eqb}
-use lib.ListN.{length}
+use lib.ListN.{length, set, take}
 use Rattle.std.proofs.shelf.Equals.{sameBytes-decides}
-use Rattle.std.proofs.shelf.Lists.{map-push}
+use Rattle.std.proofs.shelf.Lists.{length-push, map-push, take-all, take-append-le, take-more-set}
 use Rattle.std.specs.Options.{mapped}
 use Rattle.std.specs.declared.option.Option.{Option}
 use Rattle.std.specs.declared.option.Option.the-variants.{Some, None}
-use Rattle.console.specs.Commands.{capped-reading}
+use Rattle.console.proofs.Apart.{none-some, some-none}
+use Rattle.console.specs.Commands.{Holds, HoldsIf, Says, capped-reading}
 use Rattle.console.specs.Numeral.{number-in, capped}
-use Rattle.console.specs.Reading.{reading, command-words, letter-words, letter-of, number-of, before-colon, in-front, numbers, blank, letter, unreadable}
+use Rattle.console.specs.Reading.{Reading, reading, command-words, letter-words, letter-of, name-from, before-colon, in-front, numbers, blank, letter, unreadable}
 use Rattle.console.specs.Words.{words}
+use Rattle.console.specs.declared.command.Command.the-variants.{Letter, Unreadable}
+use Rattle.console.specs.declared.numbers.Numbers.{Numbers}
 
 not-true : (b : Bool) → (b ≡ true → ⊥) → b ≡ false
 not-true true h = absurd (h refl)
@@ -28,12 +31,12 @@ not-true false h = refl
 
 module _ {A B : Type 0} (f : A → B) where
   pub mapped-some : (o : Option A) (y : B) → mapped f o ≡ Some y → (x : A) × (o ≡ Some x) × (f x ≡ y)
-  mapped-some None y e = let no : _≡_ {A = ℕ} 0 1 = cc in absurd (omega arith)
+  mapped-some None y e = none-some e
   mapped-some (Some x) y e = (x, refl, cc)
 
   pub mapped-none : (o : Option A) → mapped f o ≡ None → o ≡ None
   mapped-none None e = refl
-  mapped-none (Some x) e = let no : _≡_ {A = ℕ} 0 1 = cc in absurd (omega arith)
+  mapped-none (Some x) e = some-none e
 
 -- ---- the colon behind a name
 
@@ -45,12 +48,12 @@ before-colon-push (c ∷ e ∷ d) = ap (mapped (λ front. c ∷ front)) (before-
 
 pub before-colon-some : (w d : List ℕ) → before-colon w ≡ Some d → w ≡ d ++ (58 ∷ [])
 unfolding before-colon
-before-colon-some [] d e = let no : _≡_ {A = ℕ} 0 1 = cc in absurd (omega arith)
+before-colon-some [] d e = none-some e
 before-colon-some (c ∷ []) d e = last (eqb c 58) refl e
   where
     last : (b : Bool) → eqb c 58 ≡ b → cond b (Some []) None ≡ Some d → c ∷ [] ≡ d ++ (58 ∷ [])
     last true is e = let none : d ≡ [] = cc in rw (none, eqb-true c 58 is)
-    last false is e = let no : _≡_ {A = ℕ} 0 1 = cc in absurd (omega arith)
+    last false is e = none-some e
 before-colon-some (c ∷ f ∷ w) d e =
     let front = mapped-some (λ front. c ∷ front) (before-colon (f ∷ w)) d e in
     rw (← front .2) (ap (λ t. c ∷ t) (before-colon-some (f ∷ w) (front .0) (front .1)))
@@ -62,51 +65,73 @@ before-colon-none w never = either (before-colon w) refl
     either None e = e
     either (Some d) e = absurd (never d (before-colon-some w d e))
 
+-- ---- numbers in fixed memory
+
+-- one number more while there is room for it, and one more behind the eighth
+module _ (x y : Numbers) (ns : List ℕ) (n : ℕ) (long : length (x .first) ≡ 8) (counted : y .count ≡ x .count + 1) (holds : Holds x ns) where
+  more : y .count ≡ length (ns ++ (n ∷ []))
+  more = counted ∙ ap (λ k. k + 1) (holds .count) ∙ sym (length-push ns n)
+
+  pub holds-more : x .count < 8 → y .first ≡ set (x .first) (x .count) n → Holds y (ns ++ (n ∷ []))
+  holds-more room written = record {
+    count = more;
+    first =
+        (λ j. take (counted j) (written j)) ∙ take-more-set (x .first) (x .count) n (omega arith)
+        ∙ ap (λ l. l ++ (n ∷ [])) (holds .first ∙ take-all 8 ns (omega (arith, holds .count)))
+        ∙ sym (take-all 8 (ns ++ (n ∷ [])) (omega (arith, more)));
+  }
+
+  pub holds-past : 8 ≤ x .count → y .first ≡ x .first → Holds y (ns ++ (n ∷ []))
+  holds-past full same = record {
+    count = more;
+    first =
+        (λ j. take (counted j) (same j)) ∙ take-all (x .count + 1) (x .first) (omega arith) ∙ sym (take-all (x .count) (x .first) (omega arith))
+        ∙ holds .first ∙ sym (take-append-le 8 ns (n ∷ []) (omega (arith, holds .count)));
+  }
+
 -- ---- numbers, one word after the other
 
 -- the numbers found so far are the first of those that the words ws are; the words rest are left
-pub record Found (ws : List (List ℕ)) (found : List ℕ) (rest : List (List ℕ)) : Type 0 where
+pub record Found (ws : List (List ℕ)) (found : Numbers) (rest : List (List ℕ)) : Type 0 where
   pub done : List ℕ
-  pub kept : found ≡ map capped done
+  pub kept : Holds found (map capped done)
   pub left : numbers ws ≡ mapped (λ more. done ++ more) (numbers rest)
-
-mapped-same : (o : Option (List ℕ)) → o ≡ mapped (λ more. [] ++ more) o
-mapped-same None = refl
-mapped-same (Some x) = refl
 
 mapped-front : (done : List ℕ) (n : ℕ) (o : Option (List ℕ)) → mapped (λ more. done ++ more) (in-front (Some n) o) ≡ mapped (λ more. (done ++ (n ∷ [])) ++ more) o
 unfolding in-front
 mapped-front done n None = refl
 mapped-front done n (Some x) = ap Some (sym (append-assoc done (n ∷ []) x))
 
-pub found-none : (ws : List (List ℕ)) → Found ws [] ws
-found-none ws = record { done = []; kept = refl; left = mapped-same (numbers ws) }
-
-module _ (ws : List (List ℕ)) (found : List ℕ) (rest : List (List ℕ)) (so-far : Found ws found rest) where
-  pub found-more : (w : List ℕ) (more : List (List ℕ)) (n : ℕ) → rest ≡ w ∷ more → Some n ≡ mapped capped (number-in w) → Found ws (found ++ (n ∷ [])) more
+module _ (ws : List (List ℕ)) (found : Numbers) (rest : List (List ℕ)) (so-far : Found ws found rest) where
+  pub found-more : (w : List ℕ) (more : List (List ℕ)) (n : ℕ) (now-found : Numbers) → rest ≡ w ∷ more → Some n ≡ mapped capped (number-in w)
+      → ((ns : List ℕ) → Holds found ns → Holds now-found (ns ++ (n ∷ []))) → Found ws now-found more
   unfolding numbers
-  found-more w more n cut read =
+  found-more w more n now-found cut read pushed =
       let number = mapped-some capped (number-in w) n (sym read) in
       let m = number .0 in
+      let these = ap (λ k. map capped (so-far .done) ++ (k ∷ [])) (sym (number .2)) ∙ sym (map-push capped (so-far .done) m) in
       record {
         done = so-far .done ++ (m ∷ []);
-        kept = ap (λ l. l ++ (n ∷ [])) (so-far .kept) ∙ ap (λ k. map capped (so-far .done) ++ (k ∷ [])) (sym (number .2)) ∙ sym (map-push capped (so-far .done) m);
+        kept = subst (Holds now-found) these (pushed (map capped (so-far .done)) (so-far .kept));
         left =
             so-far .left ∙ ap (λ l. mapped (λ tail. so-far .done ++ tail) (numbers l)) cut
             ∙ ap (λ o. mapped (λ tail. so-far .done ++ tail) (in-front o (numbers more))) (number .1)
             ∙ mapped-front (so-far .done) m (numbers more);
       }
 
-  pub found-other : (w : List ℕ) (more : List (List ℕ)) → rest ≡ w ∷ more → None ≡ mapped capped (number-in w) → numbers ws ≡ None
+  pub found-other : (w : List ℕ) (more : List (List ℕ)) → rest ≡ w ∷ more → None ≡ mapped capped (number-in w) → HoldsIf None (mapped (map capped) (numbers ws))
   unfolding numbers in-front
   found-other w more cut other =
+      let none =
       so-far .left ∙ ap (λ l. mapped (λ tail. so-far .done ++ tail) (numbers l)) cut
-      ∙ ap (λ o. mapped (λ tail. so-far .done ++ tail) (in-front o (numbers more))) (mapped-none capped (number-in w) (sym other))
+      ∙ ap (λ o. mapped (λ tail. so-far .done ++ tail) (in-front o (numbers more))) (mapped-none capped (number-in w) (sym other)) in
+      rw none tt
 
-  pub found-all : rest ≡ [] → Some found ≡ mapped (map capped) (numbers ws)
+  pub found-all : rest ≡ [] → HoldsIf (Some found) (mapped (map capped) (numbers ws))
   unfolding numbers
   found-all end =
-      ap Some (so-far .kept) ∙ sym (ap (mapped (map capped)) (so-far .left ∙ ap (λ l. mapped (λ tail. so-far .done ++ tail) (numbers l)) end ∙ ap Some (append-nil (so-far .done))))
+      let all = so-far .left ∙ ap (λ l. mapped (λ tail. so-far .done ++ tail) (numbers l)) end ∙ ap Some (append-nil (so-far .done)) in
+      rw all (so-far .kept)
 
 -- ---- the whole line
 
@@ -117,9 +142,24 @@ letter-of-capped (Some n) None = refl
 letter-of-capped (Some n) (Some bs) = refl
 
 pub letter-capped : (ws : List (List ℕ)) (w : List ℕ) (more : List (List ℕ)) → ws ≡ w ∷ more
-    → capped-reading (letter-words ws) ≡ letter-of (mapped capped (number-of (before-colon w))) (mapped (map capped) (numbers more))
+    → capped-reading (letter-words ws) ≡ letter-of (mapped capped (name-from (before-colon w))) (mapped (map capped) (numbers more))
 unfolding letter-words
-letter-capped ws w more cut = ap (λ l. capped-reading (letter-words l)) cut ∙ letter-of-capped (number-of (before-colon w)) (numbers more)
+letter-capped ws w more cut = ap (λ l. capped-reading (letter-words l)) cut ∙ letter-of-capped (name-from (before-colon w)) (numbers more)
+
+-- what a letter says, by what could be read of it
+pub says-no-name : (r : Reading) (name : Option ℕ) (bytes : Option (List ℕ)) → r ≡ letter-of name bytes → None ≡ name → Says Unreadable r
+unfolding letter-of
+says-no-name r name bytes is none = rw (is, ← none) tt
+
+pub says-no-bytes : (r : Reading) (name : Option ℕ) (n : ℕ) (bytes : Option (List ℕ)) → r ≡ letter-of name bytes → Some n ≡ name → HoldsIf None bytes → Says Unreadable r
+unfolding letter-of
+says-no-bytes r name n None is named holds = rw (is, ← named) tt
+says-no-bytes r name n (Some ns) is named holds = absurd holds
+
+pub says-letter : (r : Reading) (name : Option ℕ) (n : ℕ) (bytes : Option (List ℕ)) (x : Numbers) → r ≡ letter-of name bytes → Some n ≡ name → HoldsIf (Some x) bytes → Says (Letter n x) r
+unfolding letter-of
+says-letter r name n None x is named holds = absurd holds
+says-letter r name n (Some ns) x is named holds = rw (is, ← named) (refl, holds)
 
 pub command-letter : (w : List ℕ) (ws : List (List ℕ)) → w ≡ codes "letter" → command-words (w ∷ ws) ≡ letter-words ws
 unfolding command-words

@@ -18,6 +18,7 @@ use Rattle.std.specs.shelf.Lists.{All}
 use Rattle.frame.specs.Contents.{contents}
 use Rattle.frame.specs.Good.{good}
 use Rattle.frame.specs.declared.frame.Frame.{Frame}
+use Rattle.console.proofs.Apart.{some-none}
 use Rattle.console.proofs.ReadingLaws.{mapped-some}
 use Rattle.console.specs.Laws.{Good-or-refused, Refused-in-order}
 use Rattle.console.specs.Refusals.{bad-byte, bad-letter}
@@ -86,7 +87,7 @@ frame-made n bs made small few is = mapped-some contents made (n, bs) (is ∙ co
 -- ---- good, or refused
 
 cond-none : {A : Type 0} (b : Bool) (x : A) (o : Option A) → cond b (Some x) o ≡ None → (b ≡ false) × (o ≡ None)
-cond-none true x o e = let no : _≡_ {A = ℕ} 0 1 = cc in absurd (omega arith)
+cond-none true x o e = some-none e
 cond-none false x o e = (refl, e)
 
 pub bad-byte-none : (i x : ℕ) (xs : List ℕ) → bad-byte i (x ∷ xs) ≡ None → (x ≤ 255) × (bad-byte (suc i) xs ≡ None)
@@ -123,6 +124,6 @@ good-front bs (suc i) h good = rw (suc-eq-add-one i) (good-to-more bs i (good-fr
 pub refused-in-order : Refused-in-order
 refused-in-order n bs = record {
   name = bad-name n bs;
-  few = bad-length n bs;
+  many = bad-length n bs;
   byte = λ i small short inside large before. bad-bytes n bs small short ∙ bad-at bs i (good-front bs i (omega arith) before) inside large;
 }

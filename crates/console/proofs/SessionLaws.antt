@@ -9,25 +9,29 @@ use Prim.Native.Nat.{ℕ, zero, suc, _+_, _-_, _^_, _<_, _≤_}
 use native.Mathlib.Nat.{sub-zero}
 use native.Mathlib.Omega.{arith}
 use lib.Dec.{ltb}
-use lib.ListN.{set, take, replicate}
+use lib.ListN.{getD, set, take, replicate}
 use lib.Seq.{take-nil}
 use Rattle.std.proofs.shelf.Lists.{length-map}
 use Rattle.std.proofs.shelf.Tests.{cases-lt, lt-ltb, le-ltb}
-use Rattle.std.specs.Results.{isOk}
-use Rattle.std.specs.Vec.{made}
 use Rattle.std.specs.declared.option.Option.{Option}
 use Rattle.std.specs.declared.option.Option.the-variants.{Some, None}
-use Rattle.std.specs.declared.result.Result.{Result}
-use Rattle.std.specs.declared.result.Result.the-variants.{Ok, Err}
+use Rattle.frame.specs.declared.frame.Frame.{Frame}
 use Rattle.console.proofs.RefusalLaws.{bad-byte-none, bad-letter-none}
-use Rattle.console.specs.Commands.{capped-reading}
+use Rattle.console.specs.Answers.{answer, answer-of}
+use Rattle.console.specs.Commands.{Holds, Says, capped-reading}
 use Rattle.console.specs.Laws.{Refused-same}
 use Rattle.console.specs.Numeral.{capped}
+use Rattle.console.specs.Places.{InPlace}
 use Rattle.console.specs.Reading.{Reading, blank, letter, unreadable}
-use Rattle.console.specs.Refusals.{bad-byte, bad-letter, refusal, refusal-text}
-use Rattle.console.specs.Sessions.{State, kept-letter, unless-refused, after, text-of, answer}
+use Rattle.console.specs.Refusals.{bad-byte, bad-letter, refusal}
+use Rattle.console.specs.Sessions.{State, kept-letter, unless-refused, after}
+use Rattle.console.specs.declared.command.Command.the-variants.{Blank, Letter, Unreadable}
+use Rattle.console.specs.declared.numbers.Numbers.{Numbers}
+use Rattle.console.specs.declared.refusal.Answer.{Answer}
+use Rattle.console.specs.declared.refusal.Answer.the-variants.{Nothing, Refused}
 use Rattle.console.specs.declared.refusal.Refusal.{Refusal}
-use Rattle.console.specs.declared.refusal.Refusal.the-variants.{BadLetter, Unreadable}
+use Rattle.console.specs.declared.refusal.Refusal.the-variants as Line
+use Rattle.console.specs.declared.refusal.Refusal.the-variants.{BadLetter}
 
 -- ---- capped numbers
 
@@ -88,6 +92,15 @@ pub map-replicate : {A B : Type 0} (f : A → B) (n : ℕ) (x : A) → map f (re
 map-replicate f zero x = refl
 map-replicate f (suc n) x = ap (λ l. f x ∷ l) (map-replicate f n x)
 
+-- where no letter stands, each stands in its place
+getD-none : (n k : ℕ) → getD {A = Option Frame} (replicate n None) k None ≡ None
+getD-none zero k = refl
+getD-none (suc n) zero = refl
+getD-none (suc n) (suc k) = getD-none n k
+
+pub none-in-place : (fs : List (Option Frame)) (n : ℕ) → fs ≡ replicate n None → InPlace fs
+none-in-place fs n is k = rw (is, getD-none n k)
+
 -- an empty list made longer is filled up
 pub filled : {A : Type 0} (old new : List A) (len n : ℕ) (x : A) → old ≡ [] → len ≡ 0 → new ≡ take n old ++ replicate (n - len) x → new ≡ replicate n x
 filled old new len n x none zero-long e = e ∙ rw (none, zero-long, take-nil n, sub-zero n)
@@ -98,55 +111,44 @@ same-unless : (o : Option Refusal) (a b k : State) → (o ≡ None → a ≡ b) 
 same-unless None a b k same = same refl
 same-unless (Some x) a b k same = refl
 
-pub record Becomes (line : ℕ) (r : Reading) (k : State) (x : Option Refusal) (new : State) : Type 0 where
-  pub refused : x ≡ refusal line r
+-- a and new are the answer to what was read as r in that line, and what is kept then, where k was kept
+pub record Becomes (line : ℕ) (r : Reading) (k : State) (a : Answer) (new : State) : Type 0 where
+  pub answered : a ≡ answer line r
   pub kept : new ≡ after r k
 
-pub after-blank : (line : ℕ) (r : Reading) (k : State) → blank ≡ capped-reading r → Becomes line r k None k
+pub after-blank : (line : ℕ) (r : Reading) (k : State) → Says Blank (capped-reading r) → Becomes line r k Nothing k
 unfolding refusal after
-after-blank line blank k e = record { refused = refl; kept = refl }
-after-blank line (letter n bs) k e = let no : _≡_ {A = ℕ} 0 1 = cc in absurd (omega arith)
-after-blank line unreadable k e = let no : _≡_ {A = ℕ} 0 1 = cc in absurd (omega arith)
+after-blank line blank k says = record { answered = refl; kept = refl }
+after-blank line (letter n bs) k says = absurd says
+after-blank line unreadable k says = absurd says
 
-pub after-unreadable : (line : ℕ) (r : Reading) (k : State) → unreadable ≡ capped-reading r → Becomes line r k (Some (Unreadable line)) k
+pub after-unreadable : (line : ℕ) (r : Reading) (k : State) → Says Unreadable (capped-reading r) → Becomes line r k (Refused (Line.Unreadable line)) k
 unfolding refusal after
-after-unreadable line blank k e = let no : _≡_ {A = ℕ} 0 1 = cc in absurd (omega arith)
-after-unreadable line (letter n bs) k e = let no : _≡_ {A = ℕ} 0 1 = cc in absurd (omega arith)
-after-unreadable line unreadable k e = record { refused = refl; kept = refl }
+after-unreadable line blank k says = absurd says
+after-unreadable line (letter n bs) k says = absurd says
+after-unreadable line unreadable k says = record { answered = refl; kept = refl }
 
-pub after-letter : (line : ℕ) (r : Reading) (k new : State) (name : ℕ) (bytes : List ℕ) (x : Option Refusal) → letter name bytes ≡ capped-reading r → x ≡ bad-letter name bytes → new ≡ unless-refused x (kept-letter name bytes k) k → Becomes line r k x new
-unfolding refusal after
-after-letter line blank k new name bytes x e judged kept = let no : _≡_ {A = ℕ} 0 1 = cc in absurd (omega arith)
-after-letter line unreadable k new name bytes x e judged kept = let no : _≡_ {A = ℕ} 0 1 = cc in absurd (omega arith)
-after-letter line (letter n bs) k new name bytes x e judged kept =
-    let of-name : name ≡ capped n = cc in
-    let of-bytes : bytes ≡ map capped bs = cc in
-    let same = judged ∙ (λ j. bad-letter (of-name j) (of-bytes j)) ∙ bad-letter-capped n bs in
-    record {
-      refused = same;
-      kept =
-          kept ∙ (λ j. unless-refused (same j) (kept-letter (of-name j) (of-bytes j) k) k)
-          ∙ same-unless (bad-letter n bs) (kept-letter (capped n) (map capped bs) k) (kept-letter n bs k) k (good-letter-same n bs k);
-    }
+module _ (line : ℕ) (k new : State) (name : ℕ) (bytes : Numbers) (a : Answer) where
+  pub after-letter : (r : Reading) → Says (Letter name bytes) (capped-reading r)
+      → ((ns : List ℕ) → Holds bytes ns → a ≡ answer-of (bad-letter name ns))
+      → ((ns : List ℕ) → Holds bytes ns → new ≡ unless-refused (bad-letter name ns) (kept-letter name ns k) k)
+      → Becomes line r k a new
+  unfolding refusal after
+  after-letter blank says answers keeps = absurd says
+  after-letter unreadable says answers keeps = absurd says
+  after-letter (letter n bs) says answers keeps =
+      let is = says .0 in
+      let ns = map capped bs in
+      let same = ap (λ m. bad-letter m ns) is ∙ bad-letter-capped n bs in
+      record {
+        answered = answers ns (says .1) ∙ ap answer-of same;
+        kept =
+            keeps ns (says .1) ∙ (λ j. unless-refused (same j) (kept-letter (is j) ns k) k)
+            ∙ same-unless (bad-letter n bs) (kept-letter (capped n) ns k) (kept-letter n bs k) k (good-letter-same n bs k);
+      }
 
--- what is refused changes nothing
 pub refused-same : Refused-same
 unfolding refusal after
 refused-same line blank k x e = refl
 refused-same line (letter n bs) k x e = ap (λ o. unless-refused o (kept-letter n bs k) k) e
 refused-same line unreadable k x e = refl
-
--- the text of a refusal answers the line; where there is no memory for it, nothing changed either
-module _ {A E : Type 0} (bytes : A → List ℕ) (line : ℕ) (r : Reading) (k new : State) (x : Refusal) (is : Some x ≡ refusal line r) (kept : new ≡ after r k) where
-  pub refused-kept : (text : Result A E) → new ≡ cond (isOk text) (after r k) k
-  refused-kept (Ok s) = kept
-  refused-kept (Err e) = kept ∙ refused-same line r k x (sym is)
-
-  pub refused-answer : (text : Result A E) → made text (λ s. bytes s ≡ refusal-text x) → made text (λ s. bytes s ≡ answer line r)
-  unfolding answer
-  refused-answer (Ok s) written = written ∙ ap text-of is
-  refused-answer (Err e) written = tt
-
-pub taken-answer : (line : ℕ) (r : Reading) (written : List ℕ) → None ≡ refusal line r → written ≡ [] → written ≡ answer line r
-unfolding answer
-taken-answer line r written is none = none ∙ ap text-of is

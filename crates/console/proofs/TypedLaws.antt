@@ -16,11 +16,12 @@ use Rattle.std.specs.declared.option.Option.{Option}
 use Rattle.std.specs.declared.option.Option.the-variants.{Some, None}
 use Rattle.std.specs.shelf.Lists.{All}
 use Rattle.std.specs.shelf.Text.{allDigits, sameBytes}
+use Rattle.console.proofs.Apart.{blank-letter, cons-nil, letter-blank, none-some, unreadable-blank, unreadable-letter}
 use Rattle.console.proofs.ReadingLaws.{mapped-some, before-colon-push, before-colon-some, command-letter, reading-some}
 use Rattle.console.proofs.WordLaws.{words-at-other}
-use Rattle.console.specs.Laws.{Spaced-words, Words-spaced, Unspaced, IsNumeral, typed, Typed-is-read, Read-was-typed}
+use Rattle.console.specs.Laws.{Spaced-words, Words-spaced, Blank-is-empty, Unspaced, IsNumeral, typed, Typed-is-read, Read-was-typed}
 use Rattle.console.specs.Numeral.{numeral, value, number-in}
-use Rattle.console.specs.Reading.{reading, command-words, letter-words, letter-of, number-of, before-colon, in-front, numbers, letter, unreadable}
+use Rattle.console.specs.Reading.{reading, command-words, letter-words, letter-of, name-from, before-colon, in-front, numbers, blank, letter, unreadable}
 use Rattle.console.specs.Words.{words, spaced, onto-first}
 
 -- ---- words and spaces
@@ -33,15 +34,15 @@ spaced-onto c (w ∷ v ∷ ws) = refl
 
 words-some : (t : List ℕ) → words t ≡ [] → ⊥
 unfolding words onto-first
-words-some [] e = let no : _≡_ {A = ℕ} 0 1 = cc in omega arith
+words-some [] e = cons-nil e
 words-some (c ∷ cs) e = either (eqb c 32) e
   where
     onto : (ws : List (List ℕ)) → onto-first c ws ≡ [] → ⊥
-    onto [] e = let no : _≡_ {A = ℕ} 0 1 = cc in omega arith
-    onto (w ∷ ws) e = let no : _≡_ {A = ℕ} 0 1 = cc in omega arith
+    onto [] e = cons-nil e
+    onto (w ∷ ws) e = cons-nil e
 
     either : (b : Bool) → cond b ([] ∷ words cs) (onto-first c (words cs)) ≡ [] → ⊥
-    either true e = let no : _≡_ {A = ℕ} 0 1 = cc in omega arith
+    either true e = cons-nil e
     either false e = onto (words cs) e
 
 spaced-space : (ws : List (List ℕ)) → (ws ≡ [] → ⊥) → spaced ([] ∷ ws) ≡ 32 ∷ spaced ws
@@ -104,7 +105,7 @@ numeral-of-number w n e = either (numeral w) refl e
   where
     either : (b : Bool) → numeral w ≡ b → cond b (Some (value w)) None ≡ Some n → IsNumeral w × (n ≡ value w)
     either true is e = (is, cc)
-    either false is e = let no : _≡_ {A = ℕ} 0 1 = cc in absurd (omega arith)
+    either false is e = none-some e
 
 numbers-of-numerals : (ws : List (List ℕ)) → All IsNumeral ws → numbers ws ≡ Some (map value ws)
 unfolding numbers in-front
@@ -113,7 +114,7 @@ numbers-of-numerals (w ∷ ws) are = λ i. in-front (number-in-numeral w (are .0
 
 in-front-some : (first : Option ℕ) (rest : Option (List ℕ)) (ns : List ℕ) → in-front first rest ≡ Some ns → (n : ℕ) × (ms : List ℕ) × (first ≡ Some n) × (rest ≡ Some ms) × (ns ≡ n ∷ ms)
 unfolding in-front
-in-front-some None rest ns e = let no : _≡_ {A = ℕ} 0 1 = cc in absurd (omega arith)
+in-front-some None rest ns e = none-some e
 in-front-some (Some n) rest ns e = let more = mapped-some (λ ms. n ∷ ms) rest ns e in (n, more .0, refl, more .1, sym (more .2))
 
 numerals-of-numbers : (ws : List (List ℕ)) (ns : List ℕ) → numbers ws ≡ Some ns → All IsNumeral ws × (ns ≡ map value ws)
@@ -135,24 +136,24 @@ unfolding typed spaced
 typed-some d ds e = omega arith
 
 pub typed-is-read : Typed-is-read
-unfolding typed letter-words letter-of number-of
+unfolding typed letter-words letter-of name-from
 typed-is-read d ds is are =
     reading-some (typed d ds) (typed-some d ds)
     ∙ ap command-words (words-spaced (codes "letter") ((d ++ codes ":") ∷ ds) letter-unspaced (colon-unspaced d (numeral-unspaced d is), numerals-unspaced ds are))
     ∙ command-letter (codes "letter") ((d ++ codes ":") ∷ ds) refl
-    ∙ (λ i. letter-of (number-of (before-colon-push d i)) (numbers ds))
+    ∙ (λ i. letter-of (name-from (before-colon-push d i)) (numbers ds))
     ∙ (λ i. letter-of (number-in-numeral d is i) (numbers-of-numerals ds are i))
 
 letter-of-some : (name : Option ℕ) (bytes : Option (List ℕ)) (n : ℕ) (bs : List ℕ) → letter-of name bytes ≡ letter n bs → (name ≡ Some n) × (bytes ≡ Some bs)
 unfolding letter-of
-letter-of-some None bytes n bs e = let no : _≡_ {A = ℕ} 0 1 = cc in absurd (omega arith)
-letter-of-some (Some m) None n bs e = let no : _≡_ {A = ℕ} 0 1 = cc in absurd (omega arith)
+letter-of-some None bytes n bs e = unreadable-letter e
+letter-of-some (Some m) None n bs e = unreadable-letter e
 letter-of-some (Some m) (Some cs) n bs e = (cc, cc)
 
-number-of-some : (o : Option (List ℕ)) (n : ℕ) → number-of o ≡ Some n → (d : List ℕ) × (o ≡ Some d) × (number-in d ≡ Some n)
-unfolding number-of
-number-of-some None n e = let no : _≡_ {A = ℕ} 0 1 = cc in absurd (omega arith)
-number-of-some (Some d) n e = (d, refl, e)
+name-from-some : (o : Option (List ℕ)) (n : ℕ) → name-from o ≡ Some n → (d : List ℕ) × (o ≡ Some d) × (number-in d ≡ Some n)
+unfolding name-from
+name-from-some None n e = none-some e
+name-from-some (Some d) n e = (d, refl, e)
 
 -- what the words of a letter are
 pub record TypedWords (ws : List (List ℕ)) (n : ℕ) (bs : List ℕ) : Type 0 where
@@ -166,10 +167,10 @@ pub record TypedWords (ws : List (List ℕ)) (n : ℕ) (bs : List ℕ) : Type 0 
 
 letter-typed : (ws : List (List ℕ)) (n : ℕ) (bs : List ℕ) → letter-words ws ≡ letter n bs → TypedWords (codes "letter" ∷ ws) n bs
 unfolding letter-words
-letter-typed [] n bs e = let no : _≡_ {A = ℕ} 0 1 = cc in absurd (omega arith)
+letter-typed [] n bs e = unreadable-letter e
 letter-typed (w ∷ ws) n bs e =
-    let parts = letter-of-some (number-of (before-colon w)) (numbers ws) n bs e in
-    let front = number-of-some (before-colon w) n (parts .0) in
+    let parts = letter-of-some (name-from (before-colon w)) (numbers ws) n bs e in
+    let front = name-from-some (before-colon w) n (parts .0) in
     let name = numeral-of-number (front .0) n (front .2) in
     let bytes = numerals-of-numbers ws bs (parts .1) in
     record {
@@ -184,16 +185,16 @@ letter-typed (w ∷ ws) n bs e =
 
 command-typed : (ws : List (List ℕ)) (n : ℕ) (bs : List ℕ) → command-words ws ≡ letter n bs → TypedWords ws n bs
 unfolding command-words
-command-typed [] n bs e = let no : _≡_ {A = ℕ} 0 1 = cc in absurd (omega arith)
+command-typed [] n bs e = unreadable-letter e
 command-typed (w ∷ ws) n bs e = either (sameBytes w (codes "letter")) refl e
   where
     either : (b : Bool) → sameBytes w (codes "letter") ≡ b → cond b (letter-words ws) unreadable ≡ letter n bs → TypedWords (w ∷ ws) n bs
     either true is e = rw (sameBytes-decides w (codes "letter") .0 is) (letter-typed ws n bs e)
-    either false is e = let no : _≡_ {A = ℕ} 0 1 = cc in absurd (omega arith)
+    either false is e = unreadable-letter e
 
 reading-typed : (t : List ℕ) (n : ℕ) (bs : List ℕ) → reading t ≡ letter n bs → TypedWords (words t) n bs
 unfolding reading
-reading-typed [] n bs e = let no : _≡_ {A = ℕ} 0 1 = cc in absurd (omega arith)
+reading-typed [] n bs e = blank-letter e
 reading-typed (c ∷ cs) n bs e = command-typed (words (c ∷ cs)) n bs e
 
 pub read-was-typed : Read-was-typed
@@ -201,3 +202,30 @@ unfolding typed
 read-was-typed t n bs e =
     let so = reading-typed t n bs e in
     (so .name, so .bytes, so .name-is, so .bytes-are, sym (spaced-words t) ∙ ap spaced (so .these), so .name-value, so .byte-values)
+
+-- ---- blank lines
+
+letter-of-not-blank : (name : Option ℕ) (bytes : Option (List ℕ)) → letter-of name bytes ≡ blank → ⊥
+unfolding letter-of
+letter-of-not-blank None bytes e = unreadable-blank e
+letter-of-not-blank (Some n) None e = unreadable-blank e
+letter-of-not-blank (Some n) (Some bs) e = letter-blank e
+
+letter-not-blank : (ws : List (List ℕ)) → letter-words ws ≡ blank → ⊥
+unfolding letter-words
+letter-not-blank [] e = unreadable-blank e
+letter-not-blank (w ∷ ws) e = letter-of-not-blank (name-from (before-colon w)) (numbers ws) e
+
+command-not-blank : (ws : List (List ℕ)) → command-words ws ≡ blank → ⊥
+unfolding command-words
+command-not-blank [] e = unreadable-blank e
+command-not-blank (w ∷ ws) e = either (sameBytes w (codes "letter")) e
+  where
+    either : (b : Bool) → cond b (letter-words ws) unreadable ≡ blank → ⊥
+    either true e = letter-not-blank ws e
+    either false e = unreadable-blank e
+
+pub blank-is-empty : Blank-is-empty
+unfolding reading
+blank-is-empty [] e = refl
+blank-is-empty (c ∷ cs) e = absurd (command-not-blank (words (c ∷ cs)) e)

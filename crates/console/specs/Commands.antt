@@ -1,21 +1,45 @@
--- What the code's commands say. A command holds numbers of 64 bits: the largest of these stands for each larger one.
+-- What the code's commands say. A command holds numbers of 64 bits, the largest of which stands for each larger one; and of
+-- the numbers behind a letter's name it holds how many there are, and the first eight.
 -- Assumes nothing: these are definitions.
 --
---   meant k            what the command k says
 --   capped-reading r   what was read as r, with its numbers capped
-use mathlib.Core.List.{map}
-use Rattle.std.specs.Of.Vec.{vec-items}
+--   Holds x ns         x holds the numbers ns, as far as it goes
+--   HoldsIf o ns       the same of numbers that may be missing: o holds numbers where there are some, and else none
+--   Says k r           the command k says what was read as r
+use mathlib.Core.List.{List, map}
+use mathlib.Core.Path.{_≡_}
+use Prim.Native.Nat.{ℕ}
+use lib.ListN.{length, take}
+use Rattle.std.specs.declared.option.Option.{Option}
+use Rattle.std.specs.declared.option.Option.the-variants.{Some, None}
 use Rattle.console.specs.Numeral.{capped}
 use Rattle.console.specs.Reading.{Reading, blank, letter, unreadable}
 use Rattle.console.specs.declared.command.Command.{Command}
 use Rattle.console.specs.declared.command.Command.the-variants.{Blank, Letter, Unreadable}
-
-abbrev pub meant : Command → Reading
-meant Blank = blank
-meant (Letter name bytes) = letter name (vec-items bytes)
-meant Unreadable = unreadable
+use Rattle.console.specs.declared.numbers.Numbers.{Numbers}
 
 abbrev pub capped-reading : Reading → Reading
 capped-reading blank = blank
 capped-reading (letter name bytes) = letter (capped name) (map capped bytes)
 capped-reading unreadable = unreadable
+
+pub record Holds (x : Numbers) (ns : List ℕ) : Type 0 where
+  pub count : x .count ≡ length ns
+  pub first : take (x .count) (x .first) ≡ take 8 ns
+
+abbrev pub HoldsIf : Option Numbers → Option (List ℕ) → Type 0
+HoldsIf None None = Unit {0}
+HoldsIf None (Some ns) = ⊥
+HoldsIf (Some x) None = ⊥
+HoldsIf (Some x) (Some ns) = Holds x ns
+
+abbrev pub Says : Command → Reading → Type 0
+Says Blank blank = Unit {0}
+Says Blank (letter n ns) = ⊥
+Says Blank unreadable = ⊥
+Says (Letter name bytes) blank = ⊥
+Says (Letter name bytes) (letter n ns) = (name ≡ n) × Holds bytes ns
+Says (Letter name bytes) unreadable = ⊥
+Says Unreadable blank = ⊥
+Says Unreadable (letter n ns) = ⊥
+Says Unreadable unreadable = Unit {0}

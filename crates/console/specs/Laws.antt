@@ -3,11 +3,15 @@
 --
 --   Spaced-words       a text's words with single spaces between them are the text
 --   Words-spaced       words without a space in them, with single spaces between them, are cut apart into these words
+--   Unspaced w         the word w has no space in it
 --   typed d ds         the command `letter` as it is typed, with the digits d for the name and the digits ds for the bytes
+--   IsNumeral w        the word w is a number in digits
+--   Blank-is-empty     only a line without any byte is blank
 --   Typed-is-read      a letter that is typed, with any digits, is read as the letter of the numbers that they write
 --   Read-was-typed     what is read as a letter was typed so
 --   Good n bs          a letter of which a good frame can be made, and none of its bytes is above 255
 --   Good-or-refused    a letter is good if and only if it is not refused
+--   In-order n bs      what is refused of a letter, in the order of the questions
 --   Refused-in-order   a name that is too large is refused at 0; else too many bytes at their number; else the first byte
 --                      that is too large at its place
 --   Refused-same       what is refused changes nothing
@@ -44,6 +48,9 @@ typed d ds = spaced (codes "letter" ∷ ((d ++ codes ":") ∷ ds))
 abbrev pub IsNumeral : List ℕ → Type 0
 IsNumeral w = numeral w ≡ true
 
+abbrev pub Blank-is-empty : Type 0
+Blank-is-empty = (t : List ℕ) → reading t ≡ blank → t ≡ []
+
 abbrev pub Typed-is-read : Type 0
 Typed-is-read = (d : List ℕ) (ds : List (List ℕ)) → IsNumeral d → All IsNumeral ds → reading (typed d ds) ≡ letter (value d) (map value ds)
 
@@ -61,7 +68,7 @@ Good-or-refused = (n : ℕ) (bs : List ℕ) → (Good n bs → bad-letter n bs �
 
 pub record In-order (n : ℕ) (bs : List ℕ) : Type 0 where
   pub name : 2047 < n → bad-letter n bs ≡ Some (BadLetter 0)
-  pub few : n ≤ 2047 → 8 < length bs → bad-letter n bs ≡ Some (BadLetter (length bs))
+  pub many : n ≤ 2047 → 8 < length bs → bad-letter n bs ≡ Some (BadLetter (length bs))
   pub byte : (i : ℕ) → n ≤ 2047 → length bs ≤ 8 → i < length bs → 255 < getD bs i 0 → ((j : ℕ) → j < i → getD bs j 0 ≤ 255) → bad-letter n bs ≡ Some (BadLetter i)
 
 abbrev pub Refused-in-order : Type 0
@@ -74,9 +81,10 @@ pub record Examples : Type 0 where
   pub empty : reading [] ≡ blank
   pub plain : reading (codes "letter 5: 1") ≡ letter 5 (1 ∷ [])
   pub no-bytes : reading (codes "letter 0:") ≡ letter 0 []
-  pub noughts : reading (codes "letter 0005: 007 255") ≡ letter 5 (7 ∷ 255 ∷ [])
+  pub zeros : reading (codes "letter 0005: 007 255") ≡ letter 5 (7 ∷ 255 ∷ [])
   pub two-spaces : reading (codes "letter 5:  1") ≡ unreadable
   pub space-behind : reading (codes "letter 5: ") ≡ unreadable
+  pub spaces : reading (codes "  ") ≡ unreadable
   pub no-colon : reading (codes "letter 5 1") ≡ unreadable
   pub large-name : refusal 7 (reading (codes "letter 2048: 256")) ≡ Some (BadLetter 0)
   pub nine-bytes : refusal 7 (reading (codes "letter 2047: 1 2 3 4 5 6 7 8 256")) ≡ Some (BadLetter 9)

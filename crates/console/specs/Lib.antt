@@ -2,6 +2,8 @@ pub mod Numeral
 pub mod Words
 pub mod Reading
 pub mod Refusals
+pub mod Answers
 pub mod Commands
+pub mod Places
 pub mod Sessions
 pub mod Laws

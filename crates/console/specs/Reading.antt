@@ -4,8 +4,13 @@
 --
 --   Reading            what a line says
 --   reading t          what the line t says
+--   command-words ws   what a line with the words ws says
+--   letter-words ws    what the words ws say behind the word `letter`
+--   letter-of n bs     the letter with the name n and the bytes bs, if both could be read
 --   before-colon w     what stands before the colon that ends the word w, or nothing where no colon ends it
+--   name-from d        the number that the digits d write, if there are such
 --   numbers ws         the numbers that the words ws are, or nothing where one of them is no number
+--   in-front n ns      the number n in front of the numbers ns, if both could be read
 use mathlib.Core.Bool.{cond}
 use mathlib.Core.List.{List, [], _∷_}
 use Prim.Native.Nat.{ℕ}
@@ -28,12 +33,10 @@ before-colon [] = None
 before-colon (c ∷ []) = cond (eqb c 58) (Some []) None
 before-colon (c ∷ d ∷ w) = mapped (λ front. c ∷ front) (before-colon (d ∷ w))
 
--- the number in a text that may be missing
-unfoldable pub number-of : Option (List ℕ) → Option ℕ
-number-of None = None
-number-of (Some w) = number-in w
+unfoldable pub name-from : Option (List ℕ) → Option ℕ
+name-from None = None
+name-from (Some w) = number-in w
 
--- a number in front of numbers, each of which may be missing
 unfoldable pub in-front : Option ℕ → Option (List ℕ) → Option (List ℕ)
 in-front None ns = None
 in-front (Some n) ns = mapped (λ rest. n ∷ rest) ns
@@ -42,16 +45,14 @@ unfoldable pub numbers : List (List ℕ) → Option (List ℕ)
 numbers [] = Some []
 numbers (w ∷ ws) = in-front (number-in w) (numbers ws)
 
--- a letter, if its name and its bytes could be read
 unfoldable pub letter-of : Option ℕ → Option (List ℕ) → Reading
 letter-of None bytes = unreadable
 letter-of (Some name) None = unreadable
 letter-of (Some name) (Some bytes) = letter name bytes
 
--- what stands behind the word `letter`
 unfoldable pub letter-words : List (List ℕ) → Reading
 letter-words [] = unreadable
-letter-words (w ∷ ws) = letter-of (number-of (before-colon w)) (numbers ws)
+letter-words (w ∷ ws) = letter-of (name-from (before-colon w)) (numbers ws)
 
 unfoldable pub command-words : List (List ℕ) → Reading
 command-words [] = unreadable

@@ -8,15 +8,12 @@
 --   refusal line r     the refusal of what was read as r in the line with that place
 --   refusal-number x   1 for a letter that isn't good, 4 for a text that can't be read
 --   refusal-place x    where: 0 for a name, else how many bytes there are, else the byte's place; for a text its line
---   refusal-text x     what is printed, `refused 1 at 0` and a line feed
 use mathlib.Core.Bool.{cond}
-use mathlib.Core.List.{List, [], _∷_, _++_}
+use mathlib.Core.List.{List, [], _∷_}
 use mathlib.Core.Path.{_≡_}
 use Prim.Native.Nat.{ℕ, suc}
-use lib.Chars.{codes}
 use lib.Dec.{ltb}
 use lib.ListN.{length}
-use Rattle.std.specs.Written.{decimal}
 use Rattle.std.specs.declared.option.Option.{Option}
 use Rattle.std.specs.declared.option.Option.the-variants.{Some, None}
 use Rattle.std.specs.declared.result.Result.{Result}
@@ -51,6 +48,3 @@ refusal-number (Unreadable line) = 4
 abbrev pub refusal-place : Refusal → ℕ
 refusal-place (BadLetter place) = place
 refusal-place (Unreadable line) = line
-
-abbrev pub refusal-text : Refusal → List ℕ
-refusal-text x = codes "refused " ++ (decimal (refusal-number x) ++ (codes " at " ++ (decimal (refusal-place x) ++ codes "\n")))

@@ -7,9 +7,9 @@
 --   state s            what the session s keeps
 --   no-letters         what a session keeps at first
 --   kept-letter n bs k what is kept once the good letter with the name n and the bytes bs is kept besides k
+--   unless-refused x   what is kept of two, the second where there is a refusal x
 --   after r k          what is kept after a line that was read as r, where k was kept
---   answer line r      what is printed in answer to what was read as r in the line with that place
-use mathlib.Core.List.{List, [], map}
+use mathlib.Core.List.{List, map}
 use Prim.Native.Nat.{ℕ}
 use lib.ListN.{set, replicate}
 use Rattle.std.specs.Of.Vec.{vec-items}
@@ -18,7 +18,7 @@ use Rattle.std.specs.declared.option.Option.{Option}
 use Rattle.std.specs.declared.option.Option.the-variants.{Some, None}
 use Rattle.frame.specs.Contents.{contents}
 use Rattle.console.specs.Reading.{Reading, blank, letter, unreadable}
-use Rattle.console.specs.Refusals.{bad-letter, refusal, refusal-text}
+use Rattle.console.specs.Refusals.{bad-letter}
 use Rattle.console.specs.declared.refusal.Refusal.{Refusal}
 use Rattle.console.specs.declared.session.Session.{Session}
 
@@ -35,7 +35,6 @@ no-letters = record { kept = replicate 2048 None; current = None }
 abbrev pub kept-letter : ℕ → List ℕ → State → State
 kept-letter n bs k = record { kept = set (k .kept) n (Some (n, bs)); current = Some n }
 
--- a letter that is refused isn't kept
 abbrev pub unless-refused : Option Refusal → State → State → State
 unless-refused None kept before = kept
 unless-refused (Some x) kept before = before
@@ -44,10 +43,3 @@ unfoldable pub after : Reading → State → State
 after blank k = k
 after (letter n bs) k = unless-refused (bad-letter n bs) (kept-letter n bs k) k
 after unreadable k = k
-
-abbrev pub text-of : Option Refusal → List ℕ
-text-of None = []
-text-of (Some x) = refusal-text x
-
-unfoldable pub answer : ℕ → Reading → List ℕ
-answer line r = text-of (refusal line r)

@@ -5,11 +5,13 @@
 --   words t            the words of the text t, one at least
 --   spaced ws          the words ws with a single space between each two
 --   words-behind t     the words of what stands behind a space; none where nothing, not even a space, is left
+--   length-behind t    how long what is left is, the space in front counted
 use mathlib.Core.Bool.{cond}
 use mathlib.Core.List.{List, [], _∷_, _++_}
-use Prim.Native.Nat.{ℕ}
+use Prim.Native.Nat.{ℕ, suc}
 use denote.Ref.{RefT}
 use lib.Dec.{eqb}
+use lib.ListN.{length}
 use Rattle.std.specs.declared.option.Option.{Option}
 use Rattle.std.specs.declared.option.Option.the-variants.{Some, None}
 
@@ -30,3 +32,7 @@ spaced (w ∷ v ∷ ws) = w ++ (32 ∷ spaced (v ∷ ws))
 abbrev pub words-behind : Option (RefT (List ℕ)) → List (List ℕ)
 words-behind None = []
 words-behind (Some t) = words (t .now)
+
+abbrev pub length-behind : Option (RefT (List ℕ)) → ℕ
+length-behind None = 0
+length-behind (Some t) = suc (length (t .now))

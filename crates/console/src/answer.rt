@@ -1,16 +1,19 @@
-// A line answered.
-ghost use mathlib.Core.Bool.{cond};
+// A session made, and lines answered.
+ghost use mathlib.Core.List.{List};
 ghost use mathlib.Core.Path.{_≡_};
-ghost use Rattle.std.specs.Of.String.{string-bytes};
-ghost use Rattle.std.specs.Results.{isOk};
+ghost use Prim.Native.Nat.{ℕ};
 ghost use Rattle.std.specs.Vec.{made};
 ghost use Rattle.frame.specs.Contents.{frame-data};
+ghost use Rattle.console.specs.Answers.{answer, answer-of};
+ghost use Rattle.console.specs.Commands.{Holds};
 ghost use Rattle.console.specs.Reading.{reading};
-ghost use Rattle.console.specs.Refusals.{bad-letter, refusal};
-ghost use Rattle.console.specs.Sessions.{state, no-letters, kept-letter, unless-refused, after, answer};
+ghost use Rattle.console.specs.Refusals.{bad-letter};
+ghost use Rattle.console.specs.Sessions.{state, no-letters, kept-letter, unless-refused, after};
 use crate::command::Command;
 use crate::command::read_command;
 use crate::judge::judge;
+use crate::numbers::Numbers;
+use crate::refusal::Answer;
 use crate::refusal::Refusal;
 use crate::session::Session;
 use frame::Frame;
@@ -32,43 +35,33 @@ impl Session {
         })
     }
 
-    // What is printed in answer to `line`, which has the place `place`. Where memory fails, nothing changes.
-    pub fn answer(&mut self, heap: Global, line: &[u8], place: u64) -> Result<String, AllocError>
-        ensures answer { λ r. ⌜ made r (λ s. string-bytes s ≡ answer place (reading (now (line .entry)))) ⌝ }
-        ensures kept { λ r. ⌜ state (now (self .exit)) ≡ cond (isOk r) (after (reading (now (line .entry))) (state (now (self .entry)))) (state (now (self .entry))) ⌝ }
+    // Does what `line` says, or refuses it; `place` is the place of the line.
+    pub fn answer(&mut self, line: &[u8], place: u64) -> Answer
+        ensures answer { λ r. ⌜ r ≡ answer place (reading (now (line .entry))) ⌝ }
+        ensures kept { λ _. ⌜ state (now (self .exit)) ≡ after (reading (now (line .entry))) (state (now (self .entry))) ⌝ }
     {
-        match self.run(heap, line, place)? {
-            None => Ok(String::new(heap)),
-            Some(refusal) => refusal.text(heap),
-        }
-    }
-
-    // Does what `line` says, or refuses it.
-    fn run(&mut self, heap: Global, line: &[u8], place: u64) -> Result<Option<Refusal>, AllocError>
-        ensures answer { λ r. ⌜ made r (λ x. x ≡ refusal place (reading (now (line .entry)))) ⌝ }
-        ensures kept { λ r. ⌜ state (now (self .exit)) ≡ cond (isOk r) (after (reading (now (line .entry))) (state (now (self .entry)))) (state (now (self .entry))) ⌝ }
-    {
-        match read_command(heap, line)? {
-            Command::Blank => Ok(None),
-            Command::Letter { name, bytes } => Ok(self.letter(name, &bytes)),
-            Command::Unreadable => Ok(Some(Refusal::Unreadable(place))),
+        match read_command(line) {
+            Command::Blank => Answer::Nothing,
+            Command::Letter { name, bytes } => self.letter(name, &bytes),
+            Command::Unreadable => Answer::Refused(Refusal::Unreadable(place)),
         }
     }
 
     // Keeps the letter with this name and these bytes, if it is good.
-    fn letter(&mut self, name: u64, bytes: &[u64]) -> Option<Refusal>
-        ensures answer { λ r. ⌜ r ≡ bad-letter name (now (bytes .entry)) ⌝ }
-        ensures kept { λ r. ⌜ state (now (self .exit)) ≡ unless-refused r (kept-letter name (now (bytes .entry)) (state (now (self .entry)))) (state (now (self .entry))) ⌝ }
+    fn letter(&mut self, name: u64, bytes: &Numbers) -> Answer
+        ensures answer { λ r. ⌜ ((ns : List ℕ) → Holds (now (bytes .entry)) ns → r ≡ answer-of (bad-letter name ns)) ⌝ }
+        ensures kept { λ _. ⌜ ((ns : List ℕ) → Holds (now (bytes .entry)) ns → state (now (self .exit)) ≡ unless-refused (bad-letter name ns) (kept-letter name ns (state (now (self .entry)))) (state (now (self .entry)))) ⌝ }
     {
         match judge(name, bytes) {
             Ok(frame) => {
                 self.keep(frame);
-                None
+                Answer::Nothing
             }
-            Err(refusal) => Some(refusal),
+            Err(refusal) => Answer::Refused(refusal),
         }
     }
 
+    // Keeps a good letter under its name, in place of an earlier one, as the current one.
     fn keep(&mut self, frame: Frame)
         ensures { λ _. ⌜ state (now (self .exit)) ≡ kept-letter (frame .id) (frame-data frame) (state (now (self .entry))) ⌝ }
     {

@@ -1,82 +1,101 @@
 // A line of text read as a command.
+ghost use mathlib.Core.List.{List, [], _∷_, _++_, map};
 ghost use mathlib.Core.Path.{_≡_};
-ghost use mathlib.Core.List.{map};
-ghost use Rattle.std.specs.Of.Vec.{vec-items};
+ghost use Prim.Native.Nat.{ℕ, _+_, _^_, _<_};
 ghost use Rattle.std.specs.Options.{mapped};
-ghost use Rattle.std.specs.Vec.{made};
-ghost use Rattle.console.specs.Commands.{meant, capped-reading};
+ghost use Rattle.console.specs.Commands.{Holds, HoldsIf, Says, capped-reading};
 ghost use Rattle.console.specs.Numeral.{capped};
-ghost use Rattle.console.specs.Reading.{reading, letter-words, number-of, numbers, before-colon};
+ghost use Rattle.console.specs.Reading.{reading, letter-words, name-from, numbers, before-colon};
 ghost use Rattle.console.specs.Words.{words-behind};
+use crate::numbers::Numbers;
 use crate::numeral::read_number;
 use crate::words::cut_word;
-use std::alloc::AllocError;
-use std::alloc::Global;
+use frame::MOST_BYTES;
 
 const LETTER: &[u8] = b"letter";
 
 const COLON: &[u8] = b":";
 
 // What a line says. Nothing is known of its numbers yet, but that the largest of 64 bits stands for each larger one.
-#[derive(Drop)]
+#[derive(Clone, Copy)]
 pub enum Command {
     Blank,
-    Letter { name: u64, bytes: Vec<u64> },
+    Letter { name: u64, bytes: Numbers },
     Unreadable,
 }
 
 // What `line` says.
-pub fn read_command(heap: Global, line: &[u8]) -> Result<Command, AllocError>
-    ensures { λ r. ⌜ made r (λ k. meant k ≡ capped-reading (reading (now (line .entry)))) ⌝ }
+pub fn read_command(line: &[u8]) -> Command
+    ensures { λ r. ⌜ Says r (capped-reading (reading (now (line .entry)))) ⌝ }
 {
     if line.is_empty() {
-        return Ok(Command::Blank);
+        return Command::Blank;
     }
     let cut = cut_word(line);
     if cut.word == LETTER {
-        read_letter(heap, cut.behind)
+        read_letter(cut.behind)
     } else {
-        Ok(Command::Unreadable)
+        Command::Unreadable
     }
 }
 
 // What the command `letter` says, of which `text` is what stands behind its first word.
-fn read_letter(heap: Global, text: Option<&[u8]>) -> Result<Command, AllocError>
-    ensures { λ r. ⌜ made r (λ k. meant k ≡ capped-reading (letter-words (words-behind (text .entry)))) ⌝ }
+fn read_letter(text: Option<&[u8]>) -> Command
+    ensures { λ r. ⌜ Says r (capped-reading (letter-words (words-behind (text .entry)))) ⌝ }
 {
     let Some(text) = text else {
-        return Ok(Command::Unreadable);
+        return Command::Unreadable;
     };
     let cut = cut_word(text);
     let Some(name) = read_name(cut.word) else {
-        return Ok(Command::Unreadable);
+        return Command::Unreadable;
     };
-    match read_numbers(heap, cut.behind)? {
-        Some(bytes) => Ok(Command::Letter { name, bytes }),
-        None => Ok(Command::Unreadable),
+    match read_numbers(cut.behind) {
+        Some(bytes) => Command::Letter { name, bytes },
+        None => Command::Unreadable,
     }
 }
 
 // The number in a word that a colon ends.
 fn read_name(word: &[u8]) -> Option<u64>
-    ensures { λ r. ⌜ r ≡ mapped capped (number-of (before-colon (now (word .entry)))) ⌝ }
+    ensures { λ r. ⌜ r ≡ mapped capped (name-from (before-colon (now (word .entry)))) ⌝ }
 {
     read_number(word.strip_suffix(COLON)?)
 }
 
 // The numbers that the words of `text` are, if all of them are numbers.
-fn read_numbers(heap: Global, text: Option<&[u8]>) -> Result<Option<Vec<u64>>, AllocError>
-    ensures { λ r. ⌜ made r (λ v. mapped vec-items v ≡ mapped (map capped) (numbers (words-behind (text .entry)))) ⌝ }
+fn read_numbers(text: Option<&[u8]>) -> Option<Numbers>
+    ensures { λ r. ⌜ HoldsIf r (mapped (map capped) (numbers (words-behind (text .entry)))) ⌝ }
 {
-    let mut found = Vec::new(heap);
+    let mut found = Numbers::new();
     let mut rest = text;
     while let Some(text) = rest {
         let cut = cut_word(text);
-        let Some(number) = read_number(cut.word) else {
-            return Ok(None);
-        };
-        found.push(number)?;
+        found.push(read_number(cut.word)?);
         rest = cut.behind;
     }
-    Ok(Some(found))
+    Some(found)
+}
+
+impl Numbers {
+    fn new() -> Self
+        ensures { λ r. ⌜ Holds r [] ⌝ }
+    {
+        Numbers {
+            count: 0,
+            first: [0; MOST_BYTES],
+        }
+    }
+
+    // One number more.
+    fn push(&mut self, number: u64)
+        requires { ⌜ now self .count + 1 < 2 ^ 64 ⌝ }
+        ensures count { λ _. ⌜ now (self .exit) .count ≡ now (self .entry) .count + 1 ⌝ }
+        ensures holds { λ _. ⌜ ((ns : List ℕ) → Holds (now (self .entry)) ns → Holds (now (self .exit)) (ns ++ number ∷ [])) ⌝ }
+    {
+        if self.count < MOST_BYTES {
+            self.first[self.count] = number;
+        }
+        self.count += 1;
+    }
 }

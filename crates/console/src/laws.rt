@@ -1,5 +1,5 @@
-// The laws of texts and refusals: each function's contract is one of them, and it does nothing else.
-ghost use Rattle.console.specs.Laws.{Spaced-words, Words-spaced, Typed-is-read, Read-was-typed, Good-or-refused, Refused-in-order, Refused-same, Examples};
+// The laws of texts and refusals: each function's contract is one of them, and the function does nothing.
+ghost use Rattle.console.specs.Laws.{Spaced-words, Words-spaced, Blank-is-empty, Typed-is-read, Read-was-typed, Good-or-refused, Refused-in-order, Refused-same, Examples};
 
 pub fn spaced_words()
     ensures { λ _. ⌜ Spaced-words ⌝ }
@@ -7,6 +7,10 @@ pub fn spaced_words()
 
 pub fn words_spaced()
     ensures { λ _. ⌜ Words-spaced ⌝ }
+{}
+
+pub fn blank_is_empty()
+    ensures { λ _. ⌜ Blank-is-empty ⌝ }
 {}
 
 pub fn typed_is_read()

@@ -1,10 +1,6 @@
-// What the console refuses, by which number, and at which place.
+// What the console refuses, by which number, and at which place; and what it answers.
 ghost use mathlib.Core.Path.{_≡_};
-ghost use Rattle.std.specs.Of.String.{string-bytes};
-ghost use Rattle.std.specs.Vec.{made};
-ghost use Rattle.console.specs.Refusals.{refusal-number, refusal-place, refusal-text};
-use std::alloc::AllocError;
-use std::alloc::Global;
+ghost use Rattle.console.specs.Refusals.{refusal-number, refusal-place};
 
 #[derive(Clone, Copy, Debug, PartialEq, Eq)]
 pub enum Refusal {
@@ -33,13 +29,12 @@ impl Refusal {
             Refusal::Unreadable(line) => line,
         }
     }
+}
 
-    // What is printed, with the line's end.
-    pub fn text(self, heap: Global) -> Result<String, AllocError>
-        ensures { λ r. ⌜ made r (λ s. string-bytes s ≡ refusal-text self) ⌝ }
-    {
-        let number = self.number();
-        let place = self.place();
-        format!(heap, "refused {number} at {place}\n")
-    }
+// What is answered to a line.
+#[derive(Clone, Copy, Debug, PartialEq, Eq)]
+pub enum Answer {
+    // The line was done, and there is nothing to say.
+    Nothing,
+    Refused(Refusal),
 }

@@ -1,10 +1,9 @@
 // A text's words, which single spaces keep apart.
 ghost use mathlib.Core.Path.{_≡_};
 ghost use mathlib.Core.List.{_∷_};
-ghost use Prim.Native.Nat.{_<_};
+ghost use Prim.Native.Nat.{_+_};
 ghost use lib.ListN.{length};
-ghost use Rattle.std.specs.Options.{Cases};
-ghost use Rattle.console.specs.Words.{words, words-behind};
+ghost use Rattle.console.specs.Words.{words, words-behind, length-behind};
 
 const SPACE: u8 = b' ';
 
@@ -18,7 +17,7 @@ pub struct Cut<'a> {
 // The first word of `text`, up to a space or the end.
 pub fn cut_word(text: &[u8]) -> Cut<'_>
     ensures answer { λ r. ⌜ words (now (text .entry)) ≡ now (r .word) ∷ words-behind (r .behind) ⌝ }
-    ensures shorter { λ r. ⌜ Cases (r .behind) (Unit {0}) (λ t. length (t .now) < length (now (text .entry))) ⌝ }
+    ensures len { λ r. ⌜ length (now (r .word)) + length-behind (r .behind) ≡ length (now (text .entry)) ⌝ }
 {
     for (i, b) in text.iter().enumerate() {
         if *b == SPACE {

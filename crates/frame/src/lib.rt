@@ -3,3 +3,4 @@ mod frame;
 mod frames;
 
 pub use frame::Frame;
+pub use frame::MOST_BYTES;

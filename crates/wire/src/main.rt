@@ -1,4 +1,5 @@
 // The program: lines from standard input, each answered on standard output.
+use console::AnswerDisplay;
 use console::Session;
 use std::error::AnyError;
 use std::io::BufRead;
@@ -20,6 +21,7 @@ fn run(rt: &LibcRuntime) -> Result<(), AnyError> {
     let mut output = BufWriter::new(rt.stdout());
     let mut session = Session::new(heap)?;
     let mut line = Vec::new(heap);
+    // Nothing says that an input ends, so its lines are counted.
     for place in 0..u64::MAX {
         // Before the program waits for a line, whoever types has the answers to the lines before it.
         if !input.buffer().contains(&LINE_FEED) {
@@ -30,7 +32,8 @@ fn run(rt: &LibcRuntime) -> Result<(), AnyError> {
             break;
         }
         let text = line.strip_suffix(LINE_END).unwrap_or(&line);
-        output.write_all(session.answer(heap, text, place)?.as_bytes())?;
+        let answer = session.answer(text, place);
+        write!(output, "{answer}")?;
     }
     output.flush()?;
     Ok(())

@@ -1,12 +1,11 @@
 -- A line without bytes is blank, and any other is read by its words.
 use mathlib.Core.List.{_∷_}
-use mathlib.Core.Path.{_≡_, sym, ap, _∙_}
+use mathlib.Core.Path.{_≡_, ap, _∙_}
 use borrow.Author.Tests.{true-eqb, false-eqb}
 use lib.Chars.{codes}
 use Rattle.std.proofs.shelf.Equals.{matches-decides}
 use Rattle.std.proofs.shelf.Tests.{both-ways}
 use Rattle.console.proofs.ReadingLaws.{reading-none, reading-some, command-letter, command-other}
-use Rattle.console.specs.Commands.{capped-reading}
 use Rattle.console.specs.Reading.{reading, command-words}
 use Rattle.console.specs.Words.{words-behind}
 use Rattle.console.proofs.command.read_command.Needs as need
@@ -17,7 +16,7 @@ by-words : (c : After-cut-word-cut) → reading (c .args .line .now) ≡ command
 by-words c = reading-some _ (false-eqb _ 0 (c .if-is-empty .ensures tt)) ∙ ap command-words (c .cut-word-cut .ensures .answer)
 
 pub returns-then-is-empty : need.returns-then-is-empty
-returns-then-is-empty c = sym (ap capped-reading (reading-none _ (true-eqb _ 0 (c .if-is-empty .ensures tt))))
+returns-then-is-empty c = rw (reading-none _ (true-eqb _ 0 (c .if-is-empty .ensures tt))) tt
 
 pub returns-then-eq : need.returns-then-eq
 returns-then-eq c =
@@ -27,4 +26,4 @@ returns-then-eq c =
 pub returns-else-eq : need.returns-else-eq
 returns-else-eq c =
     let decides = matches-decides _ (codes "letter") _ (c .eq .ensures) in
-    sym (ap capped-reading (by-words (need.at·returns-else-eq c .After-cut-word-cut) ∙ command-other _ _ (λ is. both-ways _ (c .if-eq .left) (decides .1 is))))
+    rw (by-words (need.at·returns-else-eq c .After-cut-word-cut) ∙ command-other _ _ (λ is. both-ways _ (c .if-eq .left) (decides .1 is))) tt

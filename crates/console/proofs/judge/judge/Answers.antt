@@ -1,53 +1,24 @@
--- The name is judged first, then the length, then each byte in turn.
-use mathlib.Core.List.{[], _∷_, _++_}
-use mathlib.Core.Path.{_≡_, refl, sym, ap, _∙_}
-use Prim.Native.Nat.{_-_, _<_}
+-- The name is judged first, then the length, and then the bytes, which are all there.
+use mathlib.Core.Path.{_≡_, sym, ap, subst, _∙_}
+use Prim.Native.Nat.{_-_}
 use native.Mathlib.Nat.{sub-zero}
 use native.Mathlib.Omega.{arith}
-use lib.ListN.{length, getD, take, length-set}
-use Rattle.std.proofs.shelf.Lists.{take-more, take-more-set, take-all}
+use lib.ListN.{take}
+use Rattle.std.proofs.shelf.Lists.{take-all}
 use Rattle.std.specs.declared.option.Option.the-variants.{Some}
-use Rattle.frame.specs.Contents.{contents}
-use Rattle.frame.specs.declared.frame.Frame.{Frame}
-use Rattle.console.proofs.RefusalLaws.{good-to-none, good-to-more, bad-at, good-all, bad-name, bad-length, bad-bytes, frame-made}
+use Rattle.console.proofs.RefusalLaws.{bad-name, bad-length}
+use Rattle.console.specs.Refusals.{Judged}
+use Rattle.console.specs.declared.refusal.Refusal.the-variants.{BadLetter}
 use Rattle.console.proofs.judge.judge.Needs as need
-use Rattle.console.proofs.judge.judge.Needs.{After-new}
 
 pub returns-then-name-gt-LARGEST-NAME : need.returns-then-name-gt-LARGEST-NAME
-returns-then-name-gt-LARGEST-NAME c = bad-name _ _ (omega arith)
+returns-then-name-gt-LARGEST-NAME c = λ ns holds. bad-name _ ns (omega arith)
 
-pub returns-then-len-gt-MOST-BYTES : need.returns-then-len-gt-MOST-BYTES
-returns-then-len-gt-MOST-BYTES c = bad-length _ _ (omega arith) (omega arith)
-
-pub loop-i-holds : need.loop-i-holds
-loop-i-holds c = (good-to-none _, refl, refl)
-
-pub loop-i-again : need.loop-i-again
-loop-i-again c = (
-  good-to-more _ _ (c .loop-i .inv .0) (omega arith) (omega arith),
-  simp length-set (c .loop-i .inv .1),
-  let in-data : c .loop-i .i < length (c .loop-i .data) = omega arith in
-      let in-bytes : c .loop-i .i < length (c .args .bytes .now) = omega arith in
-      take-more-set _ _ _ in-data ∙ ap (λ front. front ++ (getD (c .args .bytes .now) (c .loop-i .i) 0 ∷ [])) (c .loop-i .inv .2) ∙ sym (take-more _ _ 0 in-bytes),
-)
-
-pub returns-then-byte-gt-LARGEST-BYTE : need.returns-then-byte-gt-LARGEST-BYTE
-returns-then-byte-gt-LARGEST-BYTE c = bad-bytes _ _ (omega arith) (omega arith) ∙ bad-at _ _ (c .loop-i .inv .0) (omega arith) (omega arith)
-
--- what was copied is the letter's bytes, so that a frame is made of them
-made : (c : After-new) → (f : Frame) × (c .new .result ≡ Some f) × (contents f ≡ (c .args .name, c .args .bytes .now))
-made c =
-    let bytes = c .args .bytes .now in
-    let all : length bytes ≡ c .loop-i .i = omega arith in
-    let same : take (length bytes - 0) (c .loop-i .data) ≡ bytes =
-    ap (λ n. take n (c .loop-i .data)) (sub-zero (length bytes) ∙ all) ∙ c .loop-i .inv .2 ∙ take-all (c .loop-i .i) bytes (omega arith) in
-    frame-made (c .args .name) bytes (c .new .result) (omega arith) (omega arith) (rw same at (c .new .ensures))
-
-pub unwrap-requires : need.unwrap-requires
-unwrap-requires c κs = rw (made (need.at·unwrap-requires c .After-new) .1)
+pub returns-then-count-gt-MOST-BYTES : need.returns-then-count-gt-MOST-BYTES
+returns-then-count-gt-MOST-BYTES c = λ ns holds. bad-length _ ns (omega arith) (omega arith) ∙ ap (λ n. Some (BadLetter n)) (sym (holds .count))
 
 pub returns : need.returns
-returns c =
-    let frame = made (need.at·returns c .After-new) in
-    let is : c .unwrap .result ≡ frame .0 = cc (c .unwrap .ensures, frame .1) in
-    (bad-bytes _ _ (omega arith) (omega arith) ∙ good-all _ _ (c .loop-i .inv .0) (omega arith), rw is (frame .2))
+returns c = λ ns holds.
+    let x = c .args .bytes .now in
+    let all : take (x .count - 0) (x .first) ≡ ns = ap (λ n. take n (x .first)) (sub-zero (x .count)) ∙ holds .first ∙ take-all 8 ns (omega arith) in
+    subst (λ bs. Judged (c .args .name) bs (c .judge-bytes .result)) all (c .judge-bytes .ensures)

@@ -2,7 +2,7 @@
 use native.Mathlib.Nat.{sub-zero}
 use native.Mathlib.Omega.{arith}
 use lib.ListN.{length-drop}
-use Rattle.std.proofs.shelf.Lists.{take-rest}
+use Rattle.std.proofs.shelf.Lists.{length-take-le, take-rest}
 use Rattle.console.proofs.WordLaws.{in-first-none, in-first-more, word-ends, word-is-all}
 use Rattle.console.proofs.words.cut_word.Needs as need
 
@@ -16,8 +16,8 @@ loop-i-again c = in-first-more _ _ (omega arith) (c .if-b-eq-SPACE .left) (c .lo
 pub returns-then-b-eq-SPACE : need.returns-then-b-eq-SPACE
 returns-then-b-eq-SPACE c = record {
   answer = simp (sub-zero, take-rest) (word-ends _ _ (omega arith) (c .if-b-eq-SPACE .taken) (c .loop-i .inv));
-  shorter = simp (take-rest, length-drop) (omega arith);
+  len = simp (sub-zero, take-rest, length-drop) (omega (arith, length-take-le (c .loop-i .i) (c .args .text .now) (omega arith)));
 }
 
 pub returns : need.returns
-returns c = record { answer = word-is-all _ _ (omega arith) (c .loop-i .inv); shorter = tt }
+returns c = record { answer = word-is-all _ _ (omega arith) (c .loop-i .inv); len = omega arith }

@@ -1,19 +1,18 @@
--- A line that isn't refused is answered by no text, and a refused one by its refusal's.
-use mathlib.Core.Path.{sym, _∙_}
-use Rattle.std.specs.Of.String.{string-bytes}
-use Rattle.console.proofs.SessionLaws.{taken-answer, refused-kept, refused-answer}
+-- What becomes of each sort of line.
+use Rattle.console.proofs.SessionLaws.{after-blank, after-letter, after-unreadable}
 use Rattle.console.proofs.session.Session.answer.Needs as need
 
-pub returns-in-None : need.returns-in-None
-returns-in-None c =
-    let ran = c .in-Continue-run .ensures tt in
-    record { answer = taken-answer _ _ _ (sym (c .in-None .is) ∙ ran .answer) (c .new .ensures .bytes); kept = ran .kept }
+pub returns-in-Blank : need.returns-in-Blank
+returns-in-Blank c =
+    let so = after-blank _ _ _ (c .in-Blank .ensures tt) in
+    record { answer = so .answered; kept = so .kept }
 
-pub returns-in-Some : need.returns-in-Some
-returns-in-Some c =
-    let ran = c .in-Continue-run .ensures tt in
-    let is = sym (c .in-Some .is) ∙ ran .answer in
-    record {
-      answer = refused-answer string-bytes _ _ _ _ _ is (ran .kept) _ (c .text .ensures);
-      kept = refused-kept string-bytes _ _ _ _ _ is (ran .kept) _;
-    }
+pub returns-in-Letter : need.returns-in-Letter
+returns-in-Letter c =
+    let so = after-letter _ _ _ _ _ _ _ (c .in-Letter .ensures tt) (c .letter .ensures .answer) (c .letter .ensures .kept) in
+    record { answer = so .answered; kept = so .kept }
+
+pub returns-in-Unreadable : need.returns-in-Unreadable
+returns-in-Unreadable c =
+    let so = after-unreadable _ _ _ (c .in-Unreadable .ensures tt) in
+    record { answer = so .answered; kept = so .kept }

@@ -1,0 +1,20 @@
+// Answers as text, with their lines' ends.
+ghost use Rattle.std.specs.declared.option.Option.the-variants.{Some};
+ghost use Rattle.console.specs.Answers.{answer-text};
+use crate::refusal::Answer;
+use std::fmt;
+
+pub impl fmt::Display for Answer as AnswerDisplay {
+    ghost shown = { λ a. Some (answer-text a) };
+
+    fn fmt<W: fmt::Write>(&self, f: &mut fmt::Formatter<W>) -> fmt::Result {
+        match self {
+            Answer::Nothing => write!(f, ""),
+            Answer::Refused(refusal) => {
+                let number = refusal.number();
+                let place = refusal.place();
+                writeln!(f, "refused {number} at {place}")
+            }
+        }
+    }
+}

@@ -1,5 +1,5 @@
 -- The table of the checks of the 256 bytes: that each entry is right is one test over the whole table, which antt computes
--- (`checks-right`), and a test that came out true says so of each entry (`check-at`).
+-- (`table-right`), and a test that came out true says so of each entry (`table-at`).
 -- Rests on the definitions of the check alone. Assumes nothing.
 use mathlib.Core.Bool.{Bool, true, _&&_}
 use mathlib.Core.List.{List, [], _∷_}
@@ -14,14 +14,14 @@ use Rattle.bits.specs.Bits.{bits-of}
 use Rattle.bits.specs.Crc.{crc}
 
 -- each entry is the check of its place, where the first place is i
-abbrev pub checks-right : ℕ → List ℕ → Bool
-checks-right i [] = true
-checks-right i (x ∷ xs) = eqb x (crc (bits-of 8 i)) && checks-right (suc i) xs
+abbrev pub table-right : ℕ → List ℕ → Bool
+table-right i [] = true
+table-right i (x ∷ xs) = eqb x (crc (bits-of 8 i)) && table-right (suc i) xs
 
-from : (xs : List ℕ) (i : ℕ) → checks-right i xs ≡ true → (k : ℕ) → k < length xs → getD xs k 0 ≡ crc (bits-of 8 (i + k))
+from : (xs : List ℕ) (i : ℕ) → table-right i xs ≡ true → (k : ℕ) → k < length xs → getD xs k 0 ≡ crc (bits-of 8 (i + k))
 from [] i t k h = absurd (omega arith)
 from (x ∷ xs) i t zero h = rw (add-zero i) (eqb-true x _ (and-parts _ _ t .0))
 from (x ∷ xs) i t (suc k) h = rw (add-suc i k, ← suc-add i k) (from xs (suc i) (and-parts _ _ t .1) k (omega arith))
 
-pub check-at : (xs : List ℕ) → checks-right 0 xs ≡ true → (k : ℕ) → k < length xs → getD xs k 0 ≡ crc (bits-of 8 k)
-check-at xs t k h = rw (zero-add k) at (from xs 0 t k h)
+pub table-at : (xs : List ℕ) → table-right 0 xs ≡ true → (k : ℕ) → k < length xs → getD xs k 0 ≡ crc (bits-of 8 k)
+table-at xs t k h = rw (zero-add k) at (from xs 0 t k h)

@@ -8,7 +8,7 @@
 --   crc-from c bs      the check c after the bits bs
 --   crc bs             the check of the bits bs, from 0 on
 --   covered id xs      what a frame's check covers: its identifier in 11 bits, how many bytes it has in 4, and the bytes
---   byte-step c x      the check c after a byte x, in one step over a table of 256 checks
+--   byte-step c x      the check c after a byte x, in one step: by the check of a single byte, of which a table has 256
 --   crc-bytes c xs     the check c after bytes, a step for each
 use mathlib.Core.Bool.{Bool, cond}
 use mathlib.Core.List.{List, [], _∷_, _++_}

@@ -3,7 +3,7 @@ ghost use mathlib.Core.Path.{_≡_};
 ghost use Prim.Native.Nat.{_^_, _<_};
 ghost use Rattle.bits.specs.Bits.{bits-of, bytes-bits};
 ghost use Rattle.bits.specs.Crc.{crc, crc-step, crc-from, covered};
-use crate::crc_table::check_of_byte;
+use crate::crc_table::crc_of_byte;
 
 const POLYNOMIAL: u16 = 17817;
 
@@ -51,7 +51,7 @@ impl Crc {
         let highest = (self.value / 128) as u8;
         let moved = self.value % 128 * 256;
         Crc {
-            value: moved ^ check_of_byte(highest ^ byte),
+            value: moved ^ crc_of_byte(highest ^ byte),
         }
     }
 

@@ -4,7 +4,7 @@ ghost use Rattle.bits.specs.Bits.{bits-of};
 ghost use Rattle.bits.specs.Crc.{crc};
 
 // At each place the check of the eight bits of that number.
-const CHECKS: [u16; 256] = [
+const CRC_TABLE: [u16; 256] = [
     0,
     17817,
     20139,
@@ -263,8 +263,8 @@ const CHECKS: [u16; 256] = [
     149,
 ];
 
-pub fn check_of_byte(byte: u8) -> u16
+pub fn crc_of_byte(byte: u8) -> u16
     ensures { λ r. ⌜ r ≡ crc (bits-of 8 byte) ⌝ }
 {
-    CHECKS[byte as usize]
+    CRC_TABLE[byte as usize]
 }

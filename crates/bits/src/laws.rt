@@ -1,4 +1,4 @@
-// The laws of bits, numbers and checks: each function's contract is one of them, and does nothing else.
+// The laws of bits, numbers and checks: each function's contract is one of them, and the function does nothing.
 ghost use Rattle.bits.specs.Laws.{Number-of-bits, Bits-of-number, Xor-turns, Crc-of-own-check, Crc-linear, Crc-by-bytes, Crc-of-low-front, Crc-of-5-1, Crc-of-0};
 
 pub fn number_of_bits()

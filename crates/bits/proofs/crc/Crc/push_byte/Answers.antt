@@ -10,11 +10,11 @@ use Rattle.bits.proofs.crc.Crc.push_byte.Needs as need
 
 pub ghost-result : need.ghost-result
 ghost-result c =
-    let narrow : c .check-of-byte .result < 2 ^ 15 = rw (c .check-of-byte .ensures) (crc-from-lt 0 _ (lit< tt)) in
+    let narrow : c .crc-of-byte .result < 2 ^ 15 = rw (c .crc-of-byte .ensures) (crc-from-lt 0 _ (lit< tt)) in
     (xor-lt 15 _ _ (omega arith) narrow, tt)
 
 pub returns : need.returns
 unfolding byte-step
 returns c =
     let moved : c .args .self .value % 128 * 256 ≡ c .args .self .value * 2 ^ 8 % 2 ^ 15 = omega arith in
-    ap₂ bitXor moved (c .check-of-byte .ensures) ∙ sym (crc-from-byte (c .args .self .value) (c .args .byte) (c .args .self .narrow))
+    ap₂ bitXor moved (c .crc-of-byte .ensures) ∙ sym (crc-from-byte (c .args .self .value) (c .args .byte) (c .args .self .narrow))

@@ -106,20 +106,36 @@ mod tests {
         Ok(())
     }
 
+    // Of an identifier the 11 lowest bits count, and of a length the 4 lowest.
+    #[test]
+    fn wide_identifiers_and_lengths() -> Result<(), Fail> {
+        check_eq(frame_crc(5 + 2048, &[1]).value(), 11229)?;
+        check_eq(frame_crc(65535, &[]).value(), frame_crc(2047, &[]).value())?;
+        let bytes = [7u8; 17];
+        let header = Crc::new().push_byte(0).push_byte(5 * 16 + 1);
+        check_eq(
+            frame_crc(5, &bytes).value(),
+            header.push_bytes(&bytes).value(),
+        )
+    }
+
     // The value that catalogues of checks give for CRC-15/CAN.
     #[test]
     fn check_of_the_nine_digits() -> Result<(), Fail> {
         check_eq(Crc::new().push_bytes(b"123456789").value(), 0x059e)
     }
 
+    // Each byte in turn, from wherever the one before it left the check.
     #[test]
     fn bit_by_bit_and_byte_by_byte() -> Result<(), Fail> {
+        let mut by_bits = Crc::new();
+        let mut by_bytes = Crc::new();
         for byte in 0..=255u8 {
-            let mut crc = Crc::new();
             for place in (0..8).rev() {
-                crc = crc.push_bit(bit_at(u64::from(byte), place));
+                by_bits = by_bits.push_bit(bit_at(u64::from(byte), place));
             }
-            check_eq(crc.value(), Crc::new().push_byte(byte).value())?;
+            by_bytes = by_bytes.push_byte(byte);
+            check_eq(by_bits.value(), by_bytes.value())?;
         }
         Ok(())
     }

@@ -27,11 +27,11 @@ use Rattle.console.specs.Refusals.{bad-byte, bad-letter, refusal}
 use Rattle.console.specs.Sessions.{State, kept-letter, unless-refused, after}
 use Rattle.console.specs.declared.command.Command.the-variants.{Blank, Letter, Unreadable}
 use Rattle.console.specs.declared.numbers.Numbers.{Numbers}
-use Rattle.console.specs.declared.refusal.Answer.{Answer}
-use Rattle.console.specs.declared.refusal.Answer.the-variants.{Nothing, Refused}
 use Rattle.console.specs.declared.refusal.Refusal.{Refusal}
 use Rattle.console.specs.declared.refusal.Refusal.the-variants as Line
 use Rattle.console.specs.declared.refusal.Refusal.the-variants.{BadLetter}
+use Rattle.console.specs.declared.text.Answer.{Answer}
+use Rattle.console.specs.declared.text.Answer.the-variants.{Nothing, Refused}
 
 -- ---- capped numbers
 

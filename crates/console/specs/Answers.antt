@@ -12,9 +12,9 @@ use Rattle.std.specs.declared.option.Option.{Option}
 use Rattle.std.specs.declared.option.Option.the-variants.{Some, None}
 use Rattle.console.specs.Reading.{Reading}
 use Rattle.console.specs.Refusals.{refusal, refusal-number, refusal-place}
-use Rattle.console.specs.declared.refusal.Answer.{Answer}
-use Rattle.console.specs.declared.refusal.Answer.the-variants.{Nothing, Refused}
 use Rattle.console.specs.declared.refusal.Refusal.{Refusal}
+use Rattle.console.specs.declared.text.Answer.{Answer}
+use Rattle.console.specs.declared.text.Answer.the-variants.{Nothing, Refused}
 
 abbrev pub answer-of : Option Refusal → Answer
 answer-of None = Nothing

@@ -1,16 +1,14 @@
 // A line of text read as a command.
-ghost use mathlib.Core.List.{List, [], _∷_, _++_, map};
+ghost use mathlib.Core.List.{map};
 ghost use mathlib.Core.Path.{_≡_};
-ghost use Prim.Native.Nat.{ℕ, _+_, _^_, _<_};
 ghost use Rattle.std.specs.Options.{mapped};
-ghost use Rattle.console.specs.Commands.{Holds, HoldsIf, Says, capped-reading};
+ghost use Rattle.console.specs.Commands.{HoldsIf, Says, capped-reading};
 ghost use Rattle.console.specs.Numeral.{capped};
 ghost use Rattle.console.specs.Reading.{reading, letter-words, name-from, numbers, before-colon};
 ghost use Rattle.console.specs.Words.{words-behind};
 use crate::numbers::Numbers;
 use crate::numeral::read_number;
 use crate::words::cut_word;
-use frame::MOST_BYTES;
 
 const LETTER: &[u8] = b"letter";
 
@@ -75,27 +73,4 @@ fn read_numbers(text: Option<&[u8]>) -> Option<Numbers>
         rest = cut.behind;
     }
     Some(found)
-}
-
-impl Numbers {
-    fn new() -> Self
-        ensures { λ r. ⌜ Holds r [] ⌝ }
-    {
-        Numbers {
-            count: 0,
-            first: [0; MOST_BYTES],
-        }
-    }
-
-    // One number more.
-    fn push(&mut self, number: u64)
-        requires { ⌜ now self .count + 1 < 2 ^ 64 ⌝ }
-        ensures count { λ _. ⌜ now (self .exit) .count ≡ now (self .entry) .count + 1 ⌝ }
-        ensures holds { λ _. ⌜ ((ns : List ℕ) → Holds (now (self .entry)) ns → Holds (now (self .exit)) (ns ++ number ∷ [])) ⌝ }
-    {
-        if self.count < MOST_BYTES {
-            self.first[self.count] = number;
-        }
-        self.count += 1;
-    }
 }

@@ -10,7 +10,7 @@ mod session;
 mod text;
 mod words;
 
-pub use refusal::Answer;
 pub use refusal::Refusal;
 pub use session::Session;
+pub use text::Answer;
 pub use text::AnswerDisplay;

@@ -1,4 +1,4 @@
-// What the console refuses, by which number, and at which place; and what it answers.
+// What the console refuses, by which number, and at which place.
 ghost use mathlib.Core.Path.{_≡_};
 ghost use Rattle.console.specs.Refusals.{refusal-number, refusal-place};
 
@@ -29,12 +29,4 @@ impl Refusal {
             Refusal::Unreadable(line) => line,
         }
     }
-}
-
-// What is answered to a line.
-#[derive(Clone, Copy, Debug, PartialEq, Eq)]
-pub enum Answer {
-    // The line was done, and there is nothing to say.
-    Nothing,
-    Refused(Refusal),
 }

@@ -1,8 +1,18 @@
-// Answers as text, with their lines' ends.
+// Answers, and their text, with its lines' ends.
 ghost use Rattle.std.specs.declared.option.Option.the-variants.{Some};
 ghost use Rattle.console.specs.Answers.{answer-text};
-use crate::refusal::Answer;
+use crate::refusal::Refusal;
+use crate::refusal::RefusalDebug;
+use crate::refusal::RefusalPartialEq;
 use std::fmt;
+
+// What is answered to a line.
+#[derive(Clone, Copy, Debug, PartialEq, Eq)]
+pub enum Answer {
+    // The line was done, and there is nothing to say.
+    Nothing,
+    Refused(Refusal),
+}
 
 pub impl fmt::Display for Answer as AnswerDisplay {
     ghost shown = { λ a. Some (answer-text a) };

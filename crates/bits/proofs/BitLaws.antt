@@ -4,7 +4,7 @@
 use mathlib.Core.Bool.{Bool, true, false, not, Bool·beq}
 use mathlib.Core.List.{_∷_, _++_}
 use mathlib.Core.Path.{_≡_, refl, sym, ap, ap₂, _∙_}
-use Prim.Native.Nat.{ℕ, zero, suc, _+_, _*_, _/_, _%_, _^_, _<_}
+use Prim.Native.Nat.{ℕ, zero, suc, _+_, _*_, _-_, _/_, _%_, _^_, _<_}
 use native.Mathlib.Nat.{add-comm, suc-add, add-suc, zero-add, div-eq-of-lt}
 use native.Mathlib.Numerals.{suc-eq-add-one}
 use native.Mathlib.Omega.{arith}
@@ -70,6 +70,14 @@ pub length-bits-of : (n x : ℕ) → length (bits-of n x) ≡ n
 unfolding bits-of
 length-bits-of zero x = refl
 length-bits-of (suc n) x = ap suc (length-bits-of n x)
+
+-- the highest of them comes first
+pub bits-of-first : (n x : ℕ) → 0 < n → bits-of n x ≡ bit-at x (n - 1) ∷ bits-of (n - 1) x
+unfolding bits-of
+bits-of-first zero x h = absurd (omega arith)
+bits-of-first (suc n) x h =
+    let less : suc n - 1 ≡ n = omega arith in
+    rw less
 
 -- the n lowest bits are those of the remainder by 2 ^ n, and so of any wider remainder
 pub bits-of-mod-wide : (j n x : ℕ) → bits-of n (x % 2 ^ (j + n)) ≡ bits-of n x

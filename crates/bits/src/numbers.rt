@@ -4,11 +4,11 @@ ghost use lib.ListN.{length};
 ghost use Rattle.bits.specs.Bits.{bit-at, bits-of};
 ghost use Rattle.bits.specs.Number.{number, in-u64};
 
-// The bit of `x` that counts 2 to the power of `place`; low past the number's 64.
-pub fn bit_at(x: u64, place: u32) -> bool
+// The bit of `x` that counts 2 to the power of `place`; low past the number's 128.
+pub fn bit_at(x: u128, place: u32) -> bool
     ensures { λ r. ⌜ r ≡ bit-at x place ⌝ }
 {
-    place < u64::BITS && x / (1 << place) % 2 == 1
+    place < u128::BITS && x / (1 << place) % 2 == 1
 }
 
 // Fills `out` with as many of the lowest bits of `x` as it has places, the highest first.

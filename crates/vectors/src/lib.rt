@@ -95,7 +95,7 @@ mod tests {
     #[test]
     fn places_count_from_the_lowest_bit() -> Result<(), Fail> {
         check(bit_at(4, 2) && !bit_at(4, 1) && !bit_at(4, 3))?;
-        check(bit_at(u64::MAX, 63) && !bit_at(u64::MAX, 64) && !bit_at(u64::MAX, u32::MAX))
+        check(bit_at(u128::MAX, 127) && !bit_at(u128::MAX, 128) && !bit_at(u128::MAX, u32::MAX))
     }
 
     #[test]
@@ -132,7 +132,7 @@ mod tests {
         let mut by_bytes = Crc::new();
         for byte in 0..=255u8 {
             for place in (0..8).rev() {
-                by_bits = by_bits.push_bit(bit_at(u64::from(byte), place));
+                by_bits = by_bits.push_bit(bit_at(u128::from(byte), place));
             }
             by_bytes = by_bytes.push_byte(byte);
             check_eq(by_bits.value(), by_bytes.value())?;

@@ -1,2 +1,8 @@
 pub mod Good
 pub mod Contents
+pub mod Fields
+pub mod Stuffing
+pub mod Line
+pub mod Digits
+pub mod Laws
+pub mod Entries

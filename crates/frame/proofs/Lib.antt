@@ -1,0 +1,4 @@
+pub mod StuffLaws
+pub mod LineLaws
+pub mod FieldLaws
+pub mod EntryLaws

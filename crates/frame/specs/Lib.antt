@@ -5,4 +5,5 @@ pub mod Stuffing
 pub mod Line
 pub mod Digits
 pub mod Laws
+pub mod Making
 pub mod Entries

@@ -15,10 +15,11 @@ use Rattle.std.proofs.shelf.Lists.{length-push, map-push, take-all, take-append
 use Rattle.std.specs.Options.{mapped}
 use Rattle.std.specs.declared.option.Option.{Option}
 use Rattle.std.specs.declared.option.Option.the-variants.{Some, None}
-use Rattle.console.proofs.Apart.{none-some, some-none}
+use Rattle.std.specs.shelf.Text.{sameBytes}
+use Rattle.console.proofs.Apart.{none-some, some-none, sort}
 use Rattle.console.specs.Commands.{Holds, HoldsIf, Says, capped-reading}
 use Rattle.console.specs.Numeral.{number-in, capped}
-use Rattle.console.specs.Reading.{Reading, reading, command-words, letter-words, letter-of, name-from, before-colon, in-front, numbers, blank, letter, unreadable}
+use Rattle.console.specs.Reading.{Reading, reading, command-words, letter-words, letter-of, line-words, name-from, before-colon, in-front, numbers, blank, letter, unreadable}
 use Rattle.console.specs.Words.{words}
 use Rattle.console.specs.declared.command.Command.the-variants.{Letter, Unreadable}
 use Rattle.console.specs.declared.numbers.Numbers.{Numbers}
@@ -133,7 +134,7 @@ module _ (ws : List (List ℕ)) (found : Numbers) (rest : List (List ℕ)) (so-f
       let all = so-far .left ∙ ap (λ l. mapped (λ tail. so-far .done ++ tail) (numbers l)) end ∙ ap Some (append-nil (so-far .done)) in
       rw all (so-far .kept)
 
--- ---- the whole line
+-- ---- a letter
 
 letter-of-capped : (name : Option ℕ) (bytes : Option (List ℕ)) → capped-reading (letter-of name bytes) ≡ letter-of (mapped capped name) (mapped (map capped) bytes)
 unfolding letter-of
@@ -149,25 +150,73 @@ letter-capped ws w more cut = ap (λ l. capped-reading (letter-words l)) cut ∙
 -- what a letter says, by what could be read of it
 pub says-no-name : (r : Reading) (name : Option ℕ) (bytes : Option (List ℕ)) → r ≡ letter-of name bytes → None ≡ name → Says Unreadable r
 unfolding letter-of
-says-no-name r name bytes is none = rw (is, ← none) tt
+says-no-name r name bytes is none = rw (is, ← none) refl
 
 pub says-no-bytes : (r : Reading) (name : Option ℕ) (n : ℕ) (bytes : Option (List ℕ)) → r ≡ letter-of name bytes → Some n ≡ name → HoldsIf None bytes → Says Unreadable r
 unfolding letter-of
-says-no-bytes r name n None is named holds = rw (is, ← named) tt
+says-no-bytes r name n None is named holds = rw (is, ← named) refl
 says-no-bytes r name n (Some ns) is named holds = absurd holds
 
 pub says-letter : (r : Reading) (name : Option ℕ) (n : ℕ) (bytes : Option (List ℕ)) (x : Numbers) → r ≡ letter-of name bytes → Some n ≡ name → HoldsIf (Some x) bytes → Says (Letter n x) r
 unfolding letter-of
 says-letter r name n None x is named holds = absurd holds
-says-letter r name n (Some ns) x is named holds = rw (is, ← named) (refl, holds)
+says-letter r name n (Some ns) x is named holds = (ns, rw (is, ← named) refl, holds)
+
+-- ---- which command it is
 
 pub command-letter : (w : List ℕ) (ws : List (List ℕ)) → w ≡ codes "letter" → command-words (w ∷ ws) ≡ letter-words ws
 unfolding command-words
 command-letter w ws is = rw (sameBytes-decides w (codes "letter") .1 is)
 
-pub command-other : (w : List ℕ) (ws : List (List ℕ)) → (w ≡ codes "letter" → ⊥) → command-words (w ∷ ws) ≡ unreadable
+other-word : (w v : List ℕ) → (w ≡ v → ⊥) → sameBytes w v ≡ false
+other-word w v other = not-true (sameBytes w v) (λ same. other (sameBytes-decides w v .0 same))
+
+pub command-line : (w : List ℕ) (ws : List (List ℕ)) → (w ≡ codes "letter" → ⊥) → w ≡ codes "line" → command-words (w ∷ ws) ≡ line-words ws
 unfolding command-words
-command-other w ws other = rw (not-true _ (λ same. other (sameBytes-decides w (codes "letter") .0 same)))
+command-line w ws other is = rw (other-word w (codes "letter") other, sameBytes-decides w (codes "line") .1 is)
+
+pub command-other : (w : List ℕ) (ws : List (List ℕ)) → (w ≡ codes "letter" → ⊥) → (w ≡ codes "line" → ⊥) → command-words (w ∷ ws) ≡ unreadable
+unfolding command-words
+command-other w ws not-letter not-line = rw (other-word w (codes "letter") not-letter, other-word w (codes "line") not-line)
+
+-- what follows of any command follows of what was read
+pub command-cases :
+    {B : Type 0} (w : List ℕ) (ws : List (List ℕ)) (r : Reading) → command-words (w ∷ ws) ≡ r → (w ≡ codes "letter" → letter-words ws ≡ r → B)
+    → (w ≡ codes "line" → line-words ws ≡ r → B) → (unreadable ≡ r → B) → B
+unfolding command-words
+command-cases {B} w ws r e of-letter of-line other = first (sameBytes w (codes "letter")) refl e
+  where
+    second : (b : Bool) → sameBytes w (codes "line") ≡ b → cond b (line-words ws) unreadable ≡ r → B
+    second true is e = of-line (sameBytes-decides w (codes "line") .0 is) e
+    second false is e = other e
+
+    first : (b : Bool) → sameBytes w (codes "letter") ≡ b → cond b (letter-words ws) (cond (sameBytes w (codes "line")) (line-words ws) unreadable) ≡ r → B
+    first true is e = of-letter (sameBytes-decides w (codes "letter") .0 is) e
+    first false is e = second (sameBytes w (codes "line")) refl e
+
+pub line-more : (ws : List (List ℕ)) → (ws ≡ [] → ⊥) → line-words ws ≡ unreadable
+unfolding line-words
+line-more [] some = absurd (some refl)
+line-more (w ∷ ws) some = refl
+
+-- a letter's words, and those of `line`, are never read as anything else
+letter-of-never : {B : Type 0} (name : Option ℕ) (bytes : Option (List ℕ)) {r : Reading} → letter-of name bytes ≡ r → (sort r ≡ 1 → ⊥) → (sort r ≡ 3 → ⊥) → B
+unfolding letter-of
+letter-of-never None bytes e one three = absurd (three (sym (ap sort e)))
+letter-of-never (Some n) None e one three = absurd (three (sym (ap sort e)))
+letter-of-never (Some n) (Some bs) e one three = absurd (one (sym (ap sort e)))
+
+pub letter-never : {B : Type 0} (ws : List (List ℕ)) {r : Reading} → letter-words ws ≡ r → (sort r ≡ 1 → ⊥) → (sort r ≡ 3 → ⊥) → B
+unfolding letter-words
+letter-never [] e one three = absurd (three (sym (ap sort e)))
+letter-never (w ∷ ws) e one three = letter-of-never (name-from (before-colon w)) (numbers ws) e one three
+
+pub line-never : {B : Type 0} (ws : List (List ℕ)) {r : Reading} → line-words ws ≡ r → (sort r ≡ 2 → ⊥) → (sort r ≡ 3 → ⊥) → B
+unfolding line-words
+line-never [] e two three = absurd (two (sym (ap sort e)))
+line-never (w ∷ ws) e two three = absurd (three (sym (ap sort e)))
+
+-- ---- the whole line
 
 pub reading-none : (t : List ℕ) → length t ≡ 0 → reading t ≡ blank
 unfolding reading

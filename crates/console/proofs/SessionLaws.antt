@@ -1,34 +1,38 @@
--- What a session keeps after a line, and that capping the numbers of a letter doesn't change what becomes of it: a number that
--- is capped is too large in any case. The main result is `after-letter`.
+-- What becomes of a line: what is answered and kept after a letter, of which capping the numbers changes nothing, since a number
+-- that is capped is too large in any case (`after-letter`), and after `line` (`after-line`); and which letter is the current one
+-- after any lines (`line-of-last`).
 -- Assumes nothing.
 use mathlib.Core.Bool.{cond}
 use mathlib.Core.List.{List, [], _∷_, _++_, map}
 use mathlib.Core.Logic.{_⊎_, inl, inr}
-use mathlib.Core.Path.{_≡_, refl, sym, ap, _∙_}
+use mathlib.Core.Path.{_≡_, refl, sym, ap, ap₂, _∙_}
 use Prim.Native.Nat.{ℕ, zero, suc, _+_, _-_, _^_, _<_, _≤_}
 use native.Mathlib.Nat.{sub-zero}
 use native.Mathlib.Omega.{arith}
 use lib.Dec.{ltb}
-use lib.ListN.{getD, set, take, replicate}
+use lib.ListN.{length, getD, set, take, replicate}
 use lib.Seq.{take-nil}
-use Rattle.std.proofs.shelf.Lists.{length-map}
+use Rattle.std.proofs.shelf.Lists.{getD-set-same, length-map, length-set}
 use Rattle.std.proofs.shelf.Tests.{cases-lt, lt-ltb, le-ltb}
+use Rattle.std.specs.Options.{mapped}
 use Rattle.std.specs.declared.option.Option.{Option}
 use Rattle.std.specs.declared.option.Option.the-variants.{Some, None}
+use Rattle.frame.specs.Contents.{contents}
 use Rattle.frame.specs.declared.frame.Frame.{Frame}
+use Rattle.console.proofs.Apart.{unlike}
 use Rattle.console.proofs.RefusalLaws.{bad-byte-none, bad-letter-none}
-use Rattle.console.specs.Answers.{answer, answer-of}
+use Rattle.console.specs.Answers.{answer, line-reply, refused, reply, reply-of}
 use Rattle.console.specs.Commands.{Holds, Says, capped-reading}
-use Rattle.console.specs.Laws.{Refused-same}
+use Rattle.console.specs.Laws.{Refused-same, Line-of-last, after-all, last-good, newer}
 use Rattle.console.specs.Numeral.{capped}
 use Rattle.console.specs.Places.{InPlace}
-use Rattle.console.specs.Reading.{Reading, blank, letter, unreadable}
-use Rattle.console.specs.Refusals.{bad-byte, bad-letter, refusal}
-use Rattle.console.specs.Sessions.{State, kept-letter, unless-refused, after}
-use Rattle.console.specs.declared.command.Command.the-variants.{Blank, Letter, Unreadable}
+use Rattle.console.specs.Reading.{Reading, blank, letter, current-line, unreadable}
+use Rattle.console.specs.Refusals.{bad-byte, bad-letter}
+use Rattle.console.specs.Sessions.{State, current-letter, letter-at, kept-letter, no-letters, unless-refused, after}
+use Rattle.console.specs.declared.command.Command.the-variants.{Blank, Letter, Line, Unreadable}
 use Rattle.console.specs.declared.numbers.Numbers.{Numbers}
 use Rattle.console.specs.declared.refusal.Refusal.{Refusal}
-use Rattle.console.specs.declared.refusal.Refusal.the-variants as Line
+use Rattle.console.specs.declared.refusal.Refusal.the-variants as Text
 use Rattle.console.specs.declared.refusal.Refusal.the-variants.{BadLetter}
 use Rattle.console.specs.declared.text.Answer.{Answer}
 use Rattle.console.specs.declared.text.Answer.the-variants.{Nothing, Refused}
@@ -101,6 +105,15 @@ getD-none (suc n) (suc k) = getD-none n k
 pub none-in-place : (fs : List (Option Frame)) (n : ℕ) → fs ≡ replicate n None → InPlace fs
 none-in-place fs n is k = rw (is, getD-none n k)
 
+-- the letter at a place, as it is kept and as the code has it
+letter-there : (fs : List (Option Frame)) (n : ℕ) → getD (map (mapped contents) fs) n None ≡ mapped contents (getD fs n None)
+letter-there [] n = refl
+letter-there (f ∷ fs) zero = refl
+letter-there (f ∷ fs) (suc n) = letter-there fs n
+
+pub current-is : (current : Option ℕ) (fs gs : List (Option Frame)) (n : ℕ) → current ≡ Some n → gs ≡ fs → mapped contents (getD gs n None) ≡ letter-at current (map (mapped contents) fs)
+current-is current fs gs n named same = ap (λ l. mapped contents (getD l n None)) same ∙ sym (letter-there fs n) ∙ ap (λ o. letter-at o (map (mapped contents) fs)) (sym named)
+
 -- an empty list made longer is filled up
 pub filled : {A : Type 0} (old new : List A) (len n : ℕ) (x : A) → old ≡ [] → len ≡ 0 → new ≡ take n old ++ replicate (n - len) x → new ≡ replicate n x
 filled old new len n x none zero-long e = e ∙ rw (none, zero-long, take-nil n, sub-zero n)
@@ -111,44 +124,95 @@ same-unless : (o : Option Refusal) (a b k : State) → (o ≡ None → a ≡ b) 
 same-unless None a b k same = same refl
 same-unless (Some x) a b k same = refl
 
--- a and new are the answer to what was read as r in that line, and what is kept then, where k was kept
-pub record Becomes (line : ℕ) (r : Reading) (k : State) (a : Answer) (new : State) : Type 0 where
-  pub answered : a ≡ answer line r
+-- a and new are the answer to what was read as r in the line with the place p, and what is kept then, where k was kept
+pub record Becomes (p : ℕ) (r : Reading) (k : State) (a : Answer) (new : State) : Type 0 where
+  pub answered : reply a ≡ answer p r k
   pub kept : new ≡ after r k
 
-pub after-blank : (line : ℕ) (r : Reading) (k : State) → Says Blank (capped-reading r) → Becomes line r k Nothing k
-unfolding refusal after
-after-blank line blank k says = record { answered = refl; kept = refl }
-after-blank line (letter n bs) k says = absurd says
-after-blank line unreadable k says = absurd says
+pub after-blank : (p : ℕ) (r : Reading) (k : State) → Says Blank (capped-reading r) → Becomes p r k Nothing k
+unfolding answer after
+after-blank p blank k says = record { answered = refl; kept = refl }
+after-blank p (letter n bs) k says = unlike says (omega arith)
+after-blank p current-line k says = unlike says (omega arith)
+after-blank p unreadable k says = unlike says (omega arith)
 
-pub after-unreadable : (line : ℕ) (r : Reading) (k : State) → Says Unreadable (capped-reading r) → Becomes line r k (Refused (Line.Unreadable line)) k
-unfolding refusal after
-after-unreadable line blank k says = absurd says
-after-unreadable line (letter n bs) k says = absurd says
-after-unreadable line unreadable k says = record { answered = refl; kept = refl }
+pub after-unreadable : (p : ℕ) (r : Reading) (k : State) → Says Unreadable (capped-reading r) → Becomes p r k (Refused (Text.Unreadable p)) k
+unfolding answer after
+after-unreadable p blank k says = unlike says (omega arith)
+after-unreadable p (letter n bs) k says = unlike says (omega arith)
+after-unreadable p current-line k says = unlike says (omega arith)
+after-unreadable p unreadable k says = record { answered = refl; kept = refl }
 
-module _ (line : ℕ) (k new : State) (name : ℕ) (bytes : Numbers) (a : Answer) where
+pub after-line : (p : ℕ) (r : Reading) (k : State) (a : Answer) → Says Line (capped-reading r) → reply a ≡ line-reply p (current-letter k) → Becomes p r k a k
+unfolding answer after
+after-line p blank k a says answers = unlike says (omega arith)
+after-line p (letter n bs) k a says answers = unlike says (omega arith)
+after-line p current-line k a says answers = record { answered = answers; kept = refl }
+after-line p unreadable k a says answers = unlike says (omega arith)
+
+module _ (p : ℕ) (k new : State) (name : ℕ) (bytes : Numbers) (a : Answer) where
   pub after-letter : (r : Reading) → Says (Letter name bytes) (capped-reading r)
-      → ((ns : List ℕ) → Holds bytes ns → a ≡ answer-of (bad-letter name ns))
+      → ((ns : List ℕ) → Holds bytes ns → reply a ≡ reply-of (bad-letter name ns))
       → ((ns : List ℕ) → Holds bytes ns → new ≡ unless-refused (bad-letter name ns) (kept-letter name ns k) k)
-      → Becomes line r k a new
-  unfolding refusal after
-  after-letter blank says answers keeps = absurd says
-  after-letter unreadable says answers keeps = absurd says
-  after-letter (letter n bs) says answers keeps =
-      let is = says .0 in
-      let ns = map capped bs in
-      let same = ap (λ m. bad-letter m ns) is ∙ bad-letter-capped n bs in
+      → Becomes p r k a new
+  unfolding answer after
+  after-letter blank (ns, is, holds) answers keeps = unlike is (omega arith)
+  after-letter current-line (ns, is, holds) answers keeps = unlike is (omega arith)
+  after-letter unreadable (ns, is, holds) answers keeps = unlike is (omega arith)
+  after-letter (letter n bs) (ns, is, holds) answers keeps =
+      let named : name ≡ capped n = cc in
+      let these : ns ≡ map capped bs = cc in
+      let same = ap₂ bad-letter named these ∙ bad-letter-capped n bs in
       record {
-        answered = answers ns (says .1) ∙ ap answer-of same;
+        answered = answers ns holds ∙ ap reply-of same;
         kept =
-            keeps ns (says .1) ∙ (λ j. unless-refused (same j) (kept-letter (is j) ns k) k)
-            ∙ same-unless (bad-letter n bs) (kept-letter (capped n) ns k) (kept-letter n bs k) k (good-letter-same n bs k);
+            keeps ns holds ∙ (λ j. unless-refused (same j) (kept-letter (named j) (these j) k) k)
+            ∙ same-unless (bad-letter n bs) (kept-letter (capped n) (map capped bs) k) (kept-letter n bs k) k (good-letter-same n bs k);
       }
 
+-- ---- laws
+
+refused-letter : (o : Option Refusal) (x : Refusal) (new k : State) → reply-of o ≡ refused x → unless-refused o new k ≡ k
+refused-letter None x new k e = let no : _≡_ {A = ℕ} 0 1 = cc in absurd (omega arith)
+refused-letter (Some y) x new k e = refl
+
 pub refused-same : Refused-same
-unfolding refusal after
-refused-same line blank k x e = refl
-refused-same line (letter n bs) k x e = ap (λ o. unless-refused o (kept-letter n bs k) k) e
-refused-same line unreadable k x e = refl
+unfolding answer after
+refused-same p blank k x e = refl
+refused-same p (letter n bs) k x e = refused-letter (bad-letter n bs) x (kept-letter n bs k) k e
+refused-same p current-line k x e = refl
+refused-same p unreadable k x e = refl
+
+-- a good letter is the current one, and what isn't good leaves it as it was; the table stays whole
+module _ (n : ℕ) (bs : List ℕ) (k : State) (whole : length (k .kept) ≡ 2048) where
+  kept-whole : (o : Option Refusal) → length (unless-refused o (kept-letter n bs k) k .kept) ≡ 2048
+  kept-whole None = length-set (k .kept) n (Some (n, bs)) ∙ whole
+  kept-whole (Some x) = whole
+
+  kept-current :
+      (o : Option Refusal) → bad-letter n bs ≡ o → current-letter (unless-refused o (kept-letter n bs k) k) ≡ unless-refused o (Some (n, bs)) (current-letter k)
+  kept-current None good = getD-set-same (k .kept) n (Some (n, bs)) None (omega (arith, whole, bad-letter-none n bs good .0))
+  kept-current (Some x) bad = refl
+
+after-whole : (r : Reading) (k : State) → length (k .kept) ≡ 2048 → length (after r k .kept) ≡ 2048
+unfolding after
+after-whole blank k whole = whole
+after-whole (letter n bs) k whole = kept-whole n bs k whole (bad-letter n bs)
+after-whole current-line k whole = whole
+after-whole unreadable k whole = whole
+
+after-current : (r : Reading) (k : State) → length (k .kept) ≡ 2048 → current-letter (after r k) ≡ newer r (current-letter k)
+unfolding after newer
+after-current blank k whole = refl
+after-current (letter n bs) k whole = kept-current n bs k whole (bad-letter n bs) refl
+after-current current-line k whole = refl
+after-current unreadable k whole = refl
+
+after-all-current : (rs : List Reading) (k : State) → length (k .kept) ≡ 2048 → current-letter (after-all rs k) ≡ last-good rs (current-letter k)
+unfolding after-all last-good
+after-all-current [] k whole = refl
+after-all-current (r ∷ rs) k whole = after-all-current rs (after r k) (after-whole r k whole) ∙ ap (last-good rs) (after-current r k whole)
+
+pub line-of-last : Line-of-last
+unfolding answer
+line-of-last p rs = ap (line-reply p) (after-all-current rs no-letters refl)

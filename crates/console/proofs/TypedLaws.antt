@@ -1,27 +1,27 @@
--- What is typed is read (`typed-is-read`), and what is read was typed (`read-was-typed`): the console's language, from outside.
+-- What is typed is read (`typed-is-read`), and what is read was typed (`read-was-typed`, `line-was-typed`, `blank-is-empty`): the
+-- console's language, from outside.
 -- Assumes nothing.
 use mathlib.Core.Bool.{Bool, true, false, cond}
 use mathlib.Core.List.{List, [], _∷_, _++_, map}
-use mathlib.Core.Path.{_≡_, refl, sym, ap, _∙_}
+use mathlib.Core.Path.{_≡_, refl, sym, ap, ap₂, _∙_}
 use Prim.Native.Nat.{ℕ, _+_}
 use native.Mathlib.Omega.{arith}
 use borrow.Author.Tests.{eqb-true, ne-eqb}
 use lib.Chars.{codes}
 use lib.Dec.{eqb}
 use lib.ListN.{length}
-use Rattle.std.proofs.shelf.Equals.{sameBytes-decides}
 use Rattle.std.proofs.shelf.Tests.{and-parts, leb-true}
 use Rattle.std.specs.Text.{asciiDigit}
 use Rattle.std.specs.declared.option.Option.{Option}
 use Rattle.std.specs.declared.option.Option.the-variants.{Some, None}
 use Rattle.std.specs.shelf.Lists.{All}
-use Rattle.std.specs.shelf.Text.{allDigits, sameBytes}
-use Rattle.console.proofs.Apart.{blank-letter, cons-nil, letter-blank, none-some, unreadable-blank, unreadable-letter}
-use Rattle.console.proofs.ReadingLaws.{mapped-some, before-colon-push, before-colon-some, command-letter, reading-some}
-use Rattle.console.proofs.WordLaws.{words-at-other}
-use Rattle.console.specs.Laws.{Spaced-words, Words-spaced, Blank-is-empty, Unspaced, IsNumeral, typed, Typed-is-read, Read-was-typed}
+use Rattle.std.specs.shelf.Text.{allDigits}
+use Rattle.console.proofs.Apart.{none-some, unlike}
+use Rattle.console.proofs.ReadingLaws.{mapped-some, before-colon-push, before-colon-some, command-cases, command-letter, letter-never, line-never, reading-some}
+use Rattle.console.proofs.WordLaws.{words-at-other, words-some}
+use Rattle.console.specs.Laws.{Spaced-words, Words-spaced, Blank-is-empty, Unspaced, IsNumeral, typed, Typed-is-read, Read-was-typed, Line-was-typed}
 use Rattle.console.specs.Numeral.{numeral, value, number-in}
-use Rattle.console.specs.Reading.{reading, command-words, letter-words, letter-of, name-from, before-colon, in-front, numbers, blank, letter, unreadable}
+use Rattle.console.specs.Reading.{reading, command-words, letter-words, letter-of, line-words, name-from, before-colon, in-front, numbers, blank, letter, current-line}
 use Rattle.console.specs.Words.{words, spaced, onto-first}
 
 -- ---- words and spaces
@@ -31,19 +31,6 @@ unfolding spaced onto-first
 spaced-onto c [] = refl
 spaced-onto c (w ∷ []) = refl
 spaced-onto c (w ∷ v ∷ ws) = refl
-
-words-some : (t : List ℕ) → words t ≡ [] → ⊥
-unfolding words onto-first
-words-some [] e = cons-nil e
-words-some (c ∷ cs) e = either (eqb c 32) e
-  where
-    onto : (ws : List (List ℕ)) → onto-first c ws ≡ [] → ⊥
-    onto [] e = cons-nil e
-    onto (w ∷ ws) e = cons-nil e
-
-    either : (b : Bool) → cond b ([] ∷ words cs) (onto-first c (words cs)) ≡ [] → ⊥
-    either true e = cons-nil e
-    either false e = onto (words cs) e
 
 spaced-space : (ws : List (List ℕ)) → (ws ≡ [] → ⊥) → spaced ([] ∷ ws) ≡ 32 ∷ spaced ws
 unfolding spaced
@@ -146,8 +133,8 @@ typed-is-read d ds is are =
 
 letter-of-some : (name : Option ℕ) (bytes : Option (List ℕ)) (n : ℕ) (bs : List ℕ) → letter-of name bytes ≡ letter n bs → (name ≡ Some n) × (bytes ≡ Some bs)
 unfolding letter-of
-letter-of-some None bytes n bs e = unreadable-letter e
-letter-of-some (Some m) None n bs e = unreadable-letter e
+letter-of-some None bytes n bs e = unlike e (omega arith)
+letter-of-some (Some m) None n bs e = unlike e (omega arith)
 letter-of-some (Some m) (Some cs) n bs e = (cc, cc)
 
 name-from-some : (o : Option (List ℕ)) (n : ℕ) → name-from o ≡ Some n → (d : List ℕ) × (o ≡ Some d) × (number-in d ≡ Some n)
@@ -167,7 +154,7 @@ pub record TypedWords (ws : List (List ℕ)) (n : ℕ) (bs : List ℕ) : Type 0 
 
 letter-typed : (ws : List (List ℕ)) (n : ℕ) (bs : List ℕ) → letter-words ws ≡ letter n bs → TypedWords (codes "letter" ∷ ws) n bs
 unfolding letter-words
-letter-typed [] n bs e = unreadable-letter e
+letter-typed [] n bs e = unlike e (omega arith)
 letter-typed (w ∷ ws) n bs e =
     let parts = letter-of-some (name-from (before-colon w)) (numbers ws) n bs e in
     let front = name-from-some (before-colon w) n (parts .0) in
@@ -185,16 +172,13 @@ letter-typed (w ∷ ws) n bs e =
 
 command-typed : (ws : List (List ℕ)) (n : ℕ) (bs : List ℕ) → command-words ws ≡ letter n bs → TypedWords ws n bs
 unfolding command-words
-command-typed [] n bs e = unreadable-letter e
-command-typed (w ∷ ws) n bs e = either (sameBytes w (codes "letter")) refl e
-  where
-    either : (b : Bool) → sameBytes w (codes "letter") ≡ b → cond b (letter-words ws) unreadable ≡ letter n bs → TypedWords (w ∷ ws) n bs
-    either true is e = rw (sameBytes-decides w (codes "letter") .0 is) (letter-typed ws n bs e)
-    either false is e = unreadable-letter e
+command-typed [] n bs e = unlike e (omega arith)
+command-typed (w ∷ ws) n bs e =
+    command-cases w ws (letter n bs) e (λ is e. rw is (letter-typed ws n bs e)) (λ is e. line-never ws e (omega arith) (omega arith)) (λ e. unlike e (omega arith))
 
 reading-typed : (t : List ℕ) (n : ℕ) (bs : List ℕ) → reading t ≡ letter n bs → TypedWords (words t) n bs
 unfolding reading
-reading-typed [] n bs e = blank-letter e
+reading-typed [] n bs e = unlike e (omega arith)
 reading-typed (c ∷ cs) n bs e = command-typed (words (c ∷ cs)) n bs e
 
 pub read-was-typed : Read-was-typed
@@ -203,27 +187,31 @@ read-was-typed t n bs e =
     let so = reading-typed t n bs e in
     (so .name, so .bytes, so .name-is, so .bytes-are, sym (spaced-words t) ∙ ap spaced (so .these), so .name-value, so .byte-values)
 
+-- ---- the command `line`
+
+line-alone : (ws : List (List ℕ)) → line-words ws ≡ current-line → ws ≡ []
+unfolding line-words
+line-alone [] e = refl
+line-alone (w ∷ ws) e = unlike e (omega arith)
+
+line-typed : (ws : List (List ℕ)) → command-words ws ≡ current-line → ws ≡ codes "line" ∷ []
+unfolding command-words
+line-typed [] e = unlike e (omega arith)
+line-typed (w ∷ ws) e =
+    command-cases w ws current-line e (λ is e. letter-never ws e (omega arith) (omega arith)) (λ is e. ap₂ _∷_ is (line-alone ws e)) (λ e. unlike e (omega arith))
+
+pub line-was-typed : Line-was-typed
+unfolding reading spaced
+line-was-typed [] e = unlike e (omega arith)
+line-was-typed (c ∷ cs) e = sym (spaced-words (c ∷ cs)) ∙ ap spaced (line-typed (words (c ∷ cs)) e)
+
 -- ---- blank lines
-
-letter-of-not-blank : (name : Option ℕ) (bytes : Option (List ℕ)) → letter-of name bytes ≡ blank → ⊥
-unfolding letter-of
-letter-of-not-blank None bytes e = unreadable-blank e
-letter-of-not-blank (Some n) None e = unreadable-blank e
-letter-of-not-blank (Some n) (Some bs) e = letter-blank e
-
-letter-not-blank : (ws : List (List ℕ)) → letter-words ws ≡ blank → ⊥
-unfolding letter-words
-letter-not-blank [] e = unreadable-blank e
-letter-not-blank (w ∷ ws) e = letter-of-not-blank (name-from (before-colon w)) (numbers ws) e
 
 command-not-blank : (ws : List (List ℕ)) → command-words ws ≡ blank → ⊥
 unfolding command-words
-command-not-blank [] e = unreadable-blank e
-command-not-blank (w ∷ ws) e = either (sameBytes w (codes "letter")) e
-  where
-    either : (b : Bool) → cond b (letter-words ws) unreadable ≡ blank → ⊥
-    either true e = letter-not-blank ws e
-    either false e = unreadable-blank e
+command-not-blank [] e = unlike e (omega arith)
+command-not-blank (w ∷ ws) e =
+    command-cases w ws blank e (λ is e. letter-never ws e (omega arith) (omega arith)) (λ is e. line-never ws e (omega arith) (omega arith)) (λ e. unlike e (omega arith))
 
 pub blank-is-empty : Blank-is-empty
 unfolding reading

@@ -9,6 +9,7 @@ use borrow.Author.Tests.{eq-eqb, ne-eqb}
 use lib.Dec.{eqb}
 use lib.ListN.{length, getD, take, drop}
 use Rattle.std.proofs.shelf.Lists.{take-more, take-all, at-drop-more, at-drop-all}
+use Rattle.console.proofs.Apart.{cons-nil}
 use Rattle.console.specs.Words.{words, onto-first}
 
 -- ---- bytes in front of the first word
@@ -35,6 +36,20 @@ onto-none (c ∷ cs) = either (eqb c 32)
     either : (b : Bool) → onto-all [] (cond b ([] ∷ words cs) (onto-first c (words cs))) ≡ cond b ([] ∷ words cs) (onto-first c (words cs))
     either true = refl
     either false = onto-none-first c (words cs)
+
+-- a text has a word at least
+pub words-some : (t : List ℕ) → words t ≡ [] → ⊥
+unfolding words onto-first
+words-some [] e = cons-nil e
+words-some (c ∷ cs) e = either (eqb c 32) e
+  where
+    onto : (ws : List (List ℕ)) → onto-first c ws ≡ [] → ⊥
+    onto [] e = cons-nil e
+    onto (w ∷ ws) e = cons-nil e
+
+    either : (b : Bool) → cond b ([] ∷ words cs) (onto-first c (words cs)) ≡ [] → ⊥
+    either true e = cons-nil e
+    either false e = onto (words cs) e
 
 -- ---- one byte after the other
 

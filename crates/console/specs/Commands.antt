@@ -13,14 +13,15 @@ use lib.ListN.{length, take}
 use Rattle.std.specs.declared.option.Option.{Option}
 use Rattle.std.specs.declared.option.Option.the-variants.{Some, None}
 use Rattle.console.specs.Numeral.{capped}
-use Rattle.console.specs.Reading.{Reading, blank, letter, unreadable}
+use Rattle.console.specs.Reading.{Reading, blank, letter, current-line, unreadable}
 use Rattle.console.specs.declared.command.Command.{Command}
-use Rattle.console.specs.declared.command.Command.the-variants.{Blank, Letter, Unreadable}
+use Rattle.console.specs.declared.command.Command.the-variants.{Blank, Letter, Line, Unreadable}
 use Rattle.console.specs.declared.numbers.Numbers.{Numbers}
 
 abbrev pub capped-reading : Reading → Reading
 capped-reading blank = blank
 capped-reading (letter name bytes) = letter (capped name) (map capped bytes)
+capped-reading current-line = current-line
 capped-reading unreadable = unreadable
 
 pub record Holds (x : Numbers) (ns : List ℕ) : Type 0 where
@@ -34,12 +35,7 @@ HoldsIf (Some x) None = ⊥
 HoldsIf (Some x) (Some ns) = Holds x ns
 
 abbrev pub Says : Command → Reading → Type 0
-Says Blank blank = Unit {0}
-Says Blank (letter n ns) = ⊥
-Says Blank unreadable = ⊥
-Says (Letter name bytes) blank = ⊥
-Says (Letter name bytes) (letter n ns) = (name ≡ n) × Holds bytes ns
-Says (Letter name bytes) unreadable = ⊥
-Says Unreadable blank = ⊥
-Says Unreadable (letter n ns) = ⊥
-Says Unreadable unreadable = Unit {0}
+Says Blank r = r ≡ blank
+Says (Letter name bytes) r = (ns : List ℕ) × (r ≡ letter name ns) × Holds bytes ns
+Says Line r = r ≡ current-line
+Says Unreadable r = r ≡ unreadable

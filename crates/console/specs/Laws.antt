@@ -1,4 +1,4 @@
--- What holds of texts and refusals, in the words of whoever types them. Each is a statement, a type; src/laws.rt has a
+-- What holds of texts, refusals and sessions, in the words of whoever types them. Each is a statement, a type; src/laws.rt has a
 -- function for each, whose contract is that statement, so that the crate is accepted only with its proof. Assumes nothing.
 --
 --   Spaced-words       a text's words with single spaces between them are the text
@@ -9,12 +9,18 @@
 --   Blank-is-empty     only a line without any byte is blank
 --   Typed-is-read      a letter that is typed, with any digits, is read as the letter of the numbers that they write
 --   Read-was-typed     what is read as a letter was typed so
+--   Line-was-typed     only the text `line` is read as that command
 --   Good n bs          a letter of which a good frame can be made, and none of its bytes is above 255
 --   Good-or-refused    a letter is good if and only if it is not refused
 --   In-order n bs      what is refused of a letter, in the order of the questions
 --   Refused-in-order   a name that is too large is refused at 0; else too many bytes at their number; else the first byte
 --                      that is too large at its place
 --   Refused-same       what is refused changes nothing
+--   after-all rs k     what is kept after lines that were read as rs, where k was kept
+--   newer r o          the last good letter once r was read, where it was o
+--   last-good rs o     the last good letter once rs were read, where it was o
+--   Line-of-last       after any lines, `line` is answered by the line of the last good letter among them, and refused if there
+--                      was none
 --   Examples           some lines, and what they say or why they are refused
 use mathlib.Core.Bool.{true}
 use mathlib.Core.List.{List, [], _∷_, _++_, map}
@@ -22,13 +28,15 @@ use mathlib.Core.Path.{_≡_}
 use Prim.Native.Nat.{ℕ, _≤_, _<_}
 use lib.Chars.{codes}
 use lib.ListN.{length, getD}
+use Rattle.std.specs.declared.option.Option.{Option}
 use Rattle.std.specs.declared.option.Option.the-variants.{Some, None}
 use Rattle.std.specs.shelf.Lists.{All}
 use Rattle.frame.specs.Good.{good}
+use Rattle.console.specs.Answers.{answer, line-reply, refused, reply-text}
 use Rattle.console.specs.Numeral.{numeral, value}
-use Rattle.console.specs.Reading.{Reading, reading, blank, letter, unreadable}
-use Rattle.console.specs.Refusals.{bad-letter, refusal}
-use Rattle.console.specs.Sessions.{State, after}
+use Rattle.console.specs.Reading.{Reading, reading, blank, letter, current-line, unreadable}
+use Rattle.console.specs.Refusals.{bad-letter}
+use Rattle.console.specs.Sessions.{State, no-letters, unless-refused, after}
 use Rattle.console.specs.Words.{words, spaced}
 use Rattle.console.specs.declared.refusal.Refusal.{Refusal}
 use Rattle.console.specs.declared.refusal.Refusal.the-variants.{BadLetter, Unreadable}
@@ -59,6 +67,9 @@ Read-was-typed =
     (t : List ℕ) (n : ℕ) (bs : List ℕ) → reading t ≡ letter n bs →
     (d : List ℕ) × (ds : List (List ℕ)) × IsNumeral d × All IsNumeral ds × (t ≡ typed d ds) × (n ≡ value d) × (bs ≡ map value ds)
 
+abbrev pub Line-was-typed : Type 0
+Line-was-typed = (t : List ℕ) → reading t ≡ current-line → t ≡ codes "line"
+
 pub record Good (n : ℕ) (bs : List ℕ) : Type 0 where
   pub frame : good n bs ≡ true
   pub bytes : All (λ x. x ≤ 255) bs
@@ -75,7 +86,24 @@ abbrev pub Refused-in-order : Type 0
 Refused-in-order = (n : ℕ) (bs : List ℕ) → In-order n bs
 
 abbrev pub Refused-same : Type 0
-Refused-same = (line : ℕ) (r : Reading) (k : State) (x : Refusal) → refusal line r ≡ Some x → after r k ≡ k
+Refused-same = (p : ℕ) (r : Reading) (k : State) (x : Refusal) → answer p r k ≡ refused x → after r k ≡ k
+
+unfoldable pub after-all : List Reading → State → State
+after-all [] k = k
+after-all (r ∷ rs) k = after-all rs (after r k)
+
+unfoldable pub newer : Reading → Option (ℕ × List ℕ) → Option (ℕ × List ℕ)
+newer blank o = o
+newer (letter n bs) o = unless-refused (bad-letter n bs) (Some (n, bs)) o
+newer current-line o = o
+newer unreadable o = o
+
+unfoldable pub last-good : List Reading → Option (ℕ × List ℕ) → Option (ℕ × List ℕ)
+last-good [] o = o
+last-good (r ∷ rs) o = last-good rs (newer r o)
+
+abbrev pub Line-of-last : Type 0
+Line-of-last = (p : ℕ) (rs : List Reading) → answer p current-line (after-all rs no-letters) ≡ line-reply p (last-good rs None)
 
 pub record Examples : Type 0 where
   pub empty : reading [] ≡ blank
@@ -86,7 +114,14 @@ pub record Examples : Type 0 where
   pub space-behind : reading (codes "letter 5: ") ≡ unreadable
   pub spaces : reading (codes "  ") ≡ unreadable
   pub no-colon : reading (codes "letter 5 1") ≡ unreadable
-  pub large-name : refusal 7 (reading (codes "letter 2048: 256")) ≡ Some (BadLetter 0)
-  pub nine-bytes : refusal 7 (reading (codes "letter 2047: 1 2 3 4 5 6 7 8 256")) ≡ Some (BadLetter 9)
-  pub large-byte : refusal 7 (reading (codes "letter 5: 1 256 257")) ≡ Some (BadLetter 1)
-  pub no-command : refusal 7 (reading (codes "lettre 5: 1")) ≡ Some (Unreadable 7)
+  pub line : reading (codes "line") ≡ current-line
+  pub line-space : reading (codes "line ") ≡ unreadable
+  pub line-name : reading (codes "line 5") ≡ unreadable
+  pub large-name : answer 7 (reading (codes "letter 2048: 256")) no-letters ≡ refused (BadLetter 0)
+  pub nine-bytes : answer 7 (reading (codes "letter 2047: 1 2 3 4 5 6 7 8 256")) no-letters ≡ refused (BadLetter 9)
+  pub large-byte : answer 7 (reading (codes "letter 5: 1 256 257")) no-letters ≡ refused (BadLetter 1)
+  pub no-command : answer 7 (reading (codes "lettre 5: 1")) no-letters ≡ refused (Unreadable 7)
+  pub line-at-first : answer 7 (reading (codes "line")) no-letters ≡ refused (Unreadable 7)
+  pub line-of-5 :
+      reply-text (answer 1 (reading (codes "line")) (after (reading (codes "letter 5: 1")) no-letters))
+      ≡ codes "000001000010100010000010010101011110111011111111\n"

@@ -2,6 +2,7 @@
 -- Assumes nothing: these are definitions.
 --
 --   numeral w          whether w is digits, one at least, and nothing else
+--   value-from v w     the number that the digits w write behind the number v
 --   value w            the number that the digits w write
 --   number-in w        the number that w writes, or nothing where w is no numeral
 --   capped n           n, or the largest number of 64 bits where n is larger: what the code keeps of a number, whose

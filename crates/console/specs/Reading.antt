@@ -1,11 +1,13 @@
--- What a line of text says to the console. A line is blank, or it is the command `letter`, as in `letter 5: 1 2 3`: a name
--- with a colon, and any number of bytes; any other line can't be read. Whether the letter is good is asked later.
+-- What a line of text says to the console. A line is blank, or it is a command; any other line can't be read. The command
+-- `letter`, as in `letter 5: 1 2 3`, has a name with a colon and any number of bytes: whether such a letter is good is asked
+-- later. The command `line` has nothing behind it.
 -- Assumes nothing: these are definitions.
 --
 --   Reading            what a line says
 --   reading t          what the line t says
 --   command-words ws   what a line with the words ws says
 --   letter-words ws    what the words ws say behind the word `letter`
+--   line-words ws      what the words ws say behind the word `line`
 --   letter-of n bs     the letter with the name n and the bytes bs, if both could be read
 --   before-colon w     what stands before the colon that ends the word w, or nothing where no colon ends it
 --   name-from d        the number that the digits d write, if there are such
@@ -26,6 +28,7 @@ use Rattle.console.specs.Words.{words}
 pub data Reading : Type 0 where
   blank : Reading
   letter : (name : ℕ) → (bytes : List ℕ) → Reading
+  current-line : Reading
   unreadable : Reading
 
 unfoldable pub before-colon : List ℕ → Option (List ℕ)
@@ -54,9 +57,14 @@ unfoldable pub letter-words : List (List ℕ) → Reading
 letter-words [] = unreadable
 letter-words (w ∷ ws) = letter-of (name-from (before-colon w)) (numbers ws)
 
+unfoldable pub line-words : List (List ℕ) → Reading
+line-words [] = current-line
+line-words (w ∷ ws) = unreadable
+
 unfoldable pub command-words : List (List ℕ) → Reading
 command-words [] = unreadable
-command-words (w ∷ ws) = cond (sameBytes w (codes "letter")) (letter-words ws) unreadable
+command-words (w ∷ ws) =
+    cond (sameBytes w (codes "letter")) (letter-words ws) (cond (sameBytes w (codes "line")) (line-words ws) unreadable)
 
 unfoldable pub reading : List ℕ → Reading
 reading [] = blank

@@ -5,8 +5,7 @@
 --   bad-letter n bs    the refusal of the letter with the name n and the bytes bs, or nothing if it is good: a name above
 --                      2047 first, then more than eight bytes, then a byte above 255
 --   Judged n bs r      r is the frame of the letter with the name n and the bytes bs, if it is good, else its refusal
---   refusal line r     the refusal of what was read as r in the line with that place
---   refusal-number x   1 for a letter that isn't good, 4 for a text that can't be read
+--   refusal-number x   1 for a letter that isn't good, 4 for a text that can't be read or asks for what isn't there
 --   refusal-place x    where: 0 for a name, else how many bytes there are, else the byte's place; for a text its line
 use mathlib.Core.Bool.{cond}
 use mathlib.Core.List.{List, [], _∷_}
@@ -20,7 +19,6 @@ use Rattle.std.specs.declared.result.Result.{Result}
 use Rattle.std.specs.declared.result.Result.the-variants.{Ok, Err}
 use Rattle.frame.specs.Contents.{contents}
 use Rattle.frame.specs.declared.frame.Frame.{Frame}
-use Rattle.console.specs.Reading.{Reading, blank, letter, unreadable}
 use Rattle.console.specs.declared.refusal.Refusal.{Refusal}
 use Rattle.console.specs.declared.refusal.Refusal.the-variants.{BadLetter, Unreadable}
 
@@ -35,11 +33,6 @@ bad-letter n bs =
 abbrev pub Judged : ℕ → List ℕ → Result Frame Refusal → Type 0
 Judged n bs (Ok f) = (bad-letter n bs ≡ None) × (contents f ≡ (n, bs))
 Judged n bs (Err x) = bad-letter n bs ≡ Some x
-
-unfoldable pub refusal : ℕ → Reading → Option Refusal
-refusal line blank = None
-refusal line (letter n bs) = bad-letter n bs
-refusal line unreadable = Some (Unreadable line)
 
 abbrev pub refusal-number : Refusal → ℕ
 refusal-number (BadLetter place) = 1

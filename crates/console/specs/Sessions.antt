@@ -6,18 +6,20 @@
 --                      there is one; and the name of the current letter, if there is one
 --   state s            what the session s keeps
 --   no-letters         what a session keeps at first
+--   current-letter k   the current letter, its name and its bytes, if k has one
+--   letter-at n ls     of the letters ls the one at the place n, if there is such a place and a letter stands there
 --   kept-letter n bs k what is kept once the good letter with the name n and the bytes bs is kept besides k
---   unless-refused x   what is kept of two, the second where there is a refusal x
+--   unless-refused x   the first of two, or the second where there is a refusal x
 --   after r k          what is kept after a line that was read as r, where k was kept
 use mathlib.Core.List.{List, map}
 use Prim.Native.Nat.{ℕ}
-use lib.ListN.{set, replicate}
+use lib.ListN.{getD, set, replicate}
 use Rattle.std.specs.Of.Vec.{vec-items}
 use Rattle.std.specs.Options.{mapped}
 use Rattle.std.specs.declared.option.Option.{Option}
 use Rattle.std.specs.declared.option.Option.the-variants.{Some, None}
 use Rattle.frame.specs.Contents.{contents}
-use Rattle.console.specs.Reading.{Reading, blank, letter, unreadable}
+use Rattle.console.specs.Reading.{Reading, blank, letter, current-line, unreadable}
 use Rattle.console.specs.Refusals.{bad-letter}
 use Rattle.console.specs.declared.refusal.Refusal.{Refusal}
 use Rattle.console.specs.declared.session.Session.{Session}
@@ -32,14 +34,22 @@ state s = record { kept = map (mapped contents) (vec-items (s .kept)); current =
 abbrev pub no-letters : State
 no-letters = record { kept = replicate 2048 None; current = None }
 
+abbrev pub letter-at : Option ℕ → List (Option (ℕ × List ℕ)) → Option (ℕ × List ℕ)
+letter-at None ls = None
+letter-at (Some n) ls = getD ls n None
+
+abbrev pub current-letter : State → Option (ℕ × List ℕ)
+current-letter k = letter-at (k .current) (k .kept)
+
 abbrev pub kept-letter : ℕ → List ℕ → State → State
 kept-letter n bs k = record { kept = set (k .kept) n (Some (n, bs)); current = Some n }
 
-abbrev pub unless-refused : Option Refusal → State → State → State
-unless-refused None kept before = kept
-unless-refused (Some x) kept before = before
+abbrev pub unless-refused : {A : Type 0} → Option Refusal → A → A → A
+unless-refused None new old = new
+unless-refused (Some x) new old = old
 
 unfoldable pub after : Reading → State → State
 after blank k = k
 after (letter n bs) k = unless-refused (bad-letter n bs) (kept-letter n bs k) k
+after current-line k = k
 after unreadable k = k

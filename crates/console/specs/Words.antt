@@ -2,6 +2,7 @@
 -- them, and a space at an end of the text an empty word beyond it: no such word is a number or a command.
 -- Assumes nothing: these are definitions.
 --
+--   onto-first c ws    the words ws with the byte c in front of the first one
 --   words t            the words of the text t, one at least
 --   spaced ws          the words ws with a single space between each two
 --   words-behind t     the words of what stands behind a space; none where nothing, not even a space, is left
@@ -15,7 +16,6 @@ use lib.ListN.{length}
 use Rattle.std.specs.declared.option.Option.{Option}
 use Rattle.std.specs.declared.option.Option.the-variants.{Some, None}
 
--- a byte in front of the first word
 unfoldable pub onto-first : ℕ → List (List ℕ) → List (List ℕ)
 onto-first c [] = (c ∷ []) ∷ []
 onto-first c (w ∷ ws) = (c ∷ w) ∷ ws

@@ -4,13 +4,15 @@ ghost use mathlib.Core.Path.{_≡_};
 ghost use Rattle.std.specs.Options.{mapped};
 ghost use Rattle.console.specs.Commands.{HoldsIf, Says, capped-reading};
 ghost use Rattle.console.specs.Numeral.{capped};
-ghost use Rattle.console.specs.Reading.{reading, letter-words, name-from, numbers, before-colon};
+ghost use Rattle.console.specs.Reading.{reading, letter-words, line-words, name-from, numbers, before-colon};
 ghost use Rattle.console.specs.Words.{words-behind};
 use crate::numbers::Numbers;
 use crate::numeral::read_number;
 use crate::words::cut_word;
 
 const LETTER: &[u8] = b"letter";
+
+const LINE: &[u8] = b"line";
 
 const COLON: &[u8] = b":";
 
@@ -19,6 +21,7 @@ const COLON: &[u8] = b":";
 pub enum Command {
     Blank,
     Letter { name: u64, bytes: Numbers },
+    Line,
     Unreadable,
 }
 
@@ -32,6 +35,8 @@ pub fn read_command(line: &[u8]) -> Command
     let cut = cut_word(line);
     if cut.word == LETTER {
         read_letter(cut.behind)
+    } else if cut.word == LINE {
+        read_line(cut.behind)
     } else {
         Command::Unreadable
     }
@@ -51,6 +56,16 @@ fn read_letter(text: Option<&[u8]>) -> Command
     match read_numbers(cut.behind) {
         Some(bytes) => Command::Letter { name, bytes },
         None => Command::Unreadable,
+    }
+}
+
+// What the command `line` says, of which `text` is what stands behind it.
+fn read_line(text: Option<&[u8]>) -> Command
+    ensures { λ r. ⌜ Says r (capped-reading (line-words (words-behind (text .entry)))) ⌝ }
+{
+    match text {
+        None => Command::Line,
+        Some(_) => Command::Unreadable,
     }
 }
 

@@ -1,5 +1,5 @@
-// The laws of texts and refusals: each function's contract is one of them, and the function does nothing.
-ghost use Rattle.console.specs.Laws.{Spaced-words, Words-spaced, Blank-is-empty, Typed-is-read, Read-was-typed, Good-or-refused, Refused-in-order, Refused-same, Examples};
+// The laws of texts, refusals and sessions: each function's contract is one of them, and the function does nothing.
+ghost use Rattle.console.specs.Laws.{Spaced-words, Words-spaced, Blank-is-empty, Typed-is-read, Read-was-typed, Line-was-typed, Good-or-refused, Refused-in-order, Refused-same, Line-of-last, Examples};
 
 pub fn spaced_words()
     ensures { λ _. ⌜ Spaced-words ⌝ }
@@ -21,6 +21,10 @@ pub fn read_was_typed()
     ensures { λ _. ⌜ Read-was-typed ⌝ }
 {}
 
+pub fn line_was_typed()
+    ensures { λ _. ⌜ Line-was-typed ⌝ }
+{}
+
 pub fn good_or_refused()
     ensures { λ _. ⌜ Good-or-refused ⌝ }
 {}
@@ -31,6 +35,10 @@ pub fn refused_in_order()
 
 pub fn refused_same()
     ensures { λ _. ⌜ Refused-same ⌝ }
+{}
+
+pub fn line_of_last()
+    ensures { λ _. ⌜ Line-of-last ⌝ }
 {}
 
 pub fn examples()

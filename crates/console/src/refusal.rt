@@ -6,7 +6,7 @@ ghost use Rattle.console.specs.Refusals.{refusal-number, refusal-place};
 pub enum Refusal {
     // A letter that isn't good: 0 for its name, else how many bytes it has, else the place of the first byte above 255.
     BadLetter(u64),
-    // A text that can't be read: the place of its line.
+    // A text that can't be read, or asks for what isn't there: the place of its line.
     Unreadable(u64),
 }
 

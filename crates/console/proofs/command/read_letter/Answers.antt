@@ -1,6 +1,6 @@
 -- A letter is read if its name and all its bytes are.
 use mathlib.Core.List.{map}
-use mathlib.Core.Path.{_≡_, ap, _∙_}
+use mathlib.Core.Path.{_≡_, refl, ap, _∙_}
 use Rattle.std.specs.Options.{mapped}
 use Rattle.console.proofs.ReadingLaws.{letter-capped, says-letter, says-no-bytes, says-no-name}
 use Rattle.console.specs.Commands.{capped-reading}
@@ -16,7 +16,7 @@ parts c = letter-capped _ _ _ (ap words-behind (c .in-Some .is) ∙ c .cut-word-
 
 pub returns-in-rest : need.returns-in-rest
 unfolding letter-words
-returns-in-rest c = rw (ap words-behind (c .in-rest .is)) tt
+returns-in-rest c = rw (ap words-behind (c .in-rest .is)) refl
 
 pub returns-in-rest-read-name : need.returns-in-rest-read-name
 returns-in-rest-read-name c = says-no-name _ _ _ (parts (need.at·returns-in-rest-read-name c .After-cut-word-cut)) (c .in-rest-read-name .ensures tt)

@@ -115,4 +115,5 @@ def main():
         stdout.write(told)
 
 
-main()
+if __name__ == '__main__':
+    main()

@@ -1,4 +1,4 @@
-// Bits and checks against values that were worked out elsewhere: `python3 tests/checks.py` prints the rows of both tables.
+// Bits and checks against values that were worked out elsewhere: `python3 tests/checks.py` prints the rows of the tables.
 use bits::Crc;
 use bits::bit_at;
 use bits::frame_crc;

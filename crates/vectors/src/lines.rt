@@ -11,7 +11,7 @@ use std::alloc::AllocError;
 use std::alloc::Global;
 use std::test::*;
 
-// A frame's name, its bytes, and its line, which was worked out elsewhere by the rule in second.rt. Every length is there.
+// A frame's name, its bytes, and its line, as `python3 tests/checks.py` prints it. Every length is there.
 const KNOWN: [(u64, &[u8], &str); 14] = [
     (0, &[], "00000100000100000100000100000100000101111111"),
     // Five high bits, and five low ones, end the fields of the next two, so one more bit is put in there.

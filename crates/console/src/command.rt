@@ -25,14 +25,14 @@ pub enum Command {
     Unreadable,
 }
 
-// What `line` says.
-pub fn read_command(line: &[u8]) -> Command
-    ensures { λ r. ⌜ Says r (capped-reading (reading (now (line .entry)))) ⌝ }
+// What a line with this text says.
+pub fn read_command(text: &[u8]) -> Command
+    ensures { λ r. ⌜ Says r (capped-reading (reading (now (text .entry)))) ⌝ }
 {
-    if line.is_empty() {
+    if text.is_empty() {
         return Command::Blank;
     }
-    let cut = cut_word(line);
+    let cut = cut_word(text);
     if cut.word == LETTER {
         read_letter(cut.behind)
     } else if cut.word == LINE {
@@ -42,7 +42,7 @@ pub fn read_command(line: &[u8]) -> Command
     }
 }
 
-// What the command `letter` says, of which `text` is what stands behind its first word.
+// What the command `letter` says, if `text` is what stands behind that word.
 fn read_letter(text: Option<&[u8]>) -> Command
     ensures { λ r. ⌜ Says r (capped-reading (letter-words (words-behind (text .entry)))) ⌝ }
 {
@@ -59,7 +59,7 @@ fn read_letter(text: Option<&[u8]>) -> Command
     }
 }
 
-// What the command `line` says, of which `text` is what stands behind it.
+// What the command `line` says, if `text` is what stands behind that word.
 fn read_line(text: Option<&[u8]>) -> Command
     ensures { λ r. ⌜ Says r (capped-reading (line-words (words-behind (text .entry)))) ⌝ }
 {

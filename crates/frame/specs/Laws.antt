@@ -1,5 +1,5 @@
--- What holds of fields, lines and answers. Each is a statement, a type; src/laws.rt has a function for each, whose contract is that statement, so
--- that the crate is accepted only with its proof. Assumes nothing.
+-- What holds of fields, lines and answers. Each is a statement, a type; src/laws.rt has a function for each, whose contract is that
+-- statement, so that the crate is accepted only with its proof. Assumes nothing.
 --
 --   Five-then-other    wherever five like bits stand in a line before its end, the start counted, a bit of the other kind
 --                      comes next, and it too stands before the end
@@ -10,12 +10,12 @@
 --   Unstuffed          the stuff bits taken out again give the row that they were put into
 --   Fields-in-line     what stands in a line between its start and its end, with stuff bits taken out, is the frame's fields
 --   Parts id xs        the fields of that frame: what stands at which place
---   Fields-apart       the identifier is the first 11 of a frame's fields, its length the next 4, each byte eight from the 15th on,
---                      and its check the last 15
+--   Fields-apart       of a frame's fields the first 11 bits are its identifier, the next 4 its length, each eight behind them a byte,
+--                      in order, and the last 15 the check of all before them
 --   Outcomes-apart     answers with the same number and values are the same
 --   Line-of-0          the line of the frame 0 without bytes
 --   Line-of-5-1        the line of the frame 5 with the byte 1
---   Line-of-1007       a line of 123 bits, which is the longest that is known
+--   Line-of-1007       a line of 123 bits
 use mathlib.Core.Bool.{Bool, true, false, not}
 use mathlib.Core.List.{List, [], _∷_, _++_}
 use mathlib.Core.Path.{_≡_}

@@ -13,7 +13,7 @@ use Rattle.console.proofs.command.read_command.Needs as need
 use Rattle.console.proofs.command.read_command.Needs.{After-cut-word-cut, After-eq-else-eq}
 
 -- the first word says which command it is
-by-words : (c : After-cut-word-cut) → reading (c .args .line .now) ≡ command-words (c .cut-word-cut .result .word .now ∷ words-behind (c .cut-word-cut .result .behind))
+by-words : (c : After-cut-word-cut) → reading (c .args .text .now) ≡ command-words (c .cut-word-cut .result .word .now ∷ words-behind (c .cut-word-cut .result .behind))
 by-words c = reading-some _ (false-eqb _ 0 (c .if-is-empty .ensures tt)) ∙ ap command-words (c .cut-word-cut .ensures .answer)
 
 pub returns-then-is-empty : need.returns-then-is-empty

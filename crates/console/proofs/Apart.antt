@@ -1,7 +1,7 @@
 -- Values of different shapes are never equal: from such an equation anything follows.
 -- Assumes nothing.
 use Rattle.std.proofs.Common.{◌≡◌, ℕ, List, [], ◌∷◌, Some, None, ap, arith}
-use Rattle.console.specs.Reading.{Reading, blank, letter, current_line, bits_read, unreadable}
+use Rattle.console.specs.Reading.{Reading, blank, letter, current_line, unreadable}
 
 module _ {A B : Type 0} where
   pub none_some : {x : A} → None ≡ Some x → B
@@ -19,7 +19,6 @@ sort blank = 0
 sort (letter n bs) = 1
 sort current_line = 2
 sort unreadable = 3
-sort (bits_read ds) = 4
 
 -- of two sorts
 pub unlike : {B : Type 0} {r s : Reading} → r ≡ s → (sort r ≡ sort s → ⊥) → B

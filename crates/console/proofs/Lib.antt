@@ -5,5 +5,3 @@ pub mod ReadingLaws
 pub mod RefusalLaws
 pub mod SessionLaws
 pub mod TypedLaws
-pub mod ShownLaws
-pub mod PrintedLaws

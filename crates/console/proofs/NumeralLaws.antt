@@ -1,12 +1,11 @@
--- A number read digit by digit. The main results are `reads_more` and `reads_end`: what one digit more, and the end, say. Digits
--- alone go the same way (`digits_more`, `digits-end`).
+-- A number read digit by digit. The main results are `reads_more` and `reads_end`: what one digit more, and the end, say.
 -- Assumes nothing.
-use Rattle.std.proofs.Common.{◌≡◌, ℕ, ◌+◌, ◌-◌, ◌*◌, ◌^◌, ◌<◌, ◌≤◌, min, Bool, true, false, cond, not, ◌&&◌, eqb, List, [], ◌∷◌, length, get_or, drop, Some, None, Option, sym, refl, ap, ◌∙◌, arith, ne_eqb}
+use Rattle.std.proofs.Common.{◌≡◌, ℕ, ◌+◌, ◌-◌, ◌*◌, ◌^◌, ◌<◌, ◌≤◌, min, true, false, cond, List, [], ◌∷◌, length, get_or, drop, Some, None, Option, sym, refl, ap, ◌∙◌, arith}
 use Rattle.std.proofs.lemmas.List.{at_drop_more, at_drop_all}
 use Rattle.std.specs.Option.{option_map}
 use Rattle.std.specs.Char.{is_ascii_digit}
 use Rattle.std.specs.Str.{all_ascii_digits}
-use Rattle.console.specs.Numeral.{numeral, value_from, number_in, capped}
+use Rattle.console.specs.Numeral.{value_from, number_in, capped}
 
 -- capping after each digit is capping at the end
 pub capped_more : (v d : ℕ) → min (min (capped v * 10) (2 ^ 64 - 1) + d) (2 ^ 64 - 1) ≡ capped (v * 10 + d)
@@ -61,38 +60,3 @@ module _ (w : List ℕ) (i n : ℕ) (so_far : ReadsTo w i n) where
   pub reads_end : length w ≤ i → Some n ≡ option_map capped (number_in w)
   unfolding ReadsTo onward value_from
   reads_end h = ap Some so_far.1 ∙ sym (ap (option_map capped) (so_far.2 ∙ at_drop_all (onward so_far.0) w i h))
-
--- ---- digits alone
-
--- the bytes of w before i are digits
-pub DigitsTo : List ℕ → ℕ → Type 0
-DigitsTo w i = all_ascii_digits w ≡ all_ascii_digits (drop i w)
-
-pub digits_none : (w : List ℕ) → DigitsTo w 0
-unfolding DigitsTo
-digits_none w = refl
-
-numeral-not : (w : List ℕ) → all_ascii_digits w ≡ false → numeral w ≡ false
-numeral-not [] other = refl
-numeral-not (c ∷ cs) other = other
-
-pub numeral_some : (w : List ℕ) → (length w ≡ 0 → ⊥) → all_ascii_digits w ≡ true → numeral w ≡ true
-numeral_some [] some digits = absurd (some refl)
-numeral_some (c ∷ cs) some digits = digits
-
-numeral_if : (w : List ℕ) → all_ascii_digits w ≡ true → not (eqb (length w) 0) ≡ numeral w
-numeral_if [] digits = refl
-numeral_if (c ∷ cs) digits = ap not (ne_eqb (length (c ∷ cs)) 0 (λ e. omega arith)) ∙ sym digits
-
-module _ (w : List ℕ) (i : ℕ) (so_far : DigitsTo w i) where
-  pub digits_more : i < length w → is_ascii_digit (get_or w i 0) ≡ true → DigitsTo w (i + 1)
-  unfolding DigitsTo
-  digits_more h digit = so_far ∙ at_drop_more all_ascii_digits w i 0 h ∙ ap (λ b. b && all_ascii_digits (drop (i + 1) w)) digit
-
-  pub digits_other : i < length w → is_ascii_digit (get_or w i 0) ≡ false → false ≡ numeral w
-  unfolding DigitsTo
-  digits_other h other = sym (numeral-not w (so_far ∙ at_drop_more all_ascii_digits w i 0 h ∙ ap (λ b. b && all_ascii_digits (drop (i + 1) w)) other))
-
-  pub digits-end : length w ≤ i → (none : Bool) → none ≡ eqb (length w) 0 → not none ≡ numeral w
-  unfolding DigitsTo
-  digits-end h none is = ap not is ∙ numeral_if w (so_far ∙ at_drop_all all_ascii_digits w i h)

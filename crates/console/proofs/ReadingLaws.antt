@@ -8,8 +8,8 @@ use Rattle.std.specs.Option.{option_map}
 use Rattle.std.specs.Str.{bytes_eq}
 use Rattle.console.proofs.Apart.{none_some, some_none, sort}
 use Rattle.console.specs.Commands.{Holds, HoldsIf, Says, capped_reading}
-use Rattle.console.specs.Numeral.{numeral, number_in, capped}
-use Rattle.console.specs.Reading.{Reading, reading, command_words, letter_words, letter_of, line_words, read_words, name_from, before_colon, in_front, numbers, blank, letter, bits_read, unreadable}
+use Rattle.console.specs.Numeral.{number_in, capped}
+use Rattle.console.specs.Reading.{Reading, reading, command_words, letter_words, letter_of, line_words, name_from, before_colon, in_front, numbers, blank, letter, unreadable}
 use Rattle.console.specs.Words.{words}
 use Rattle.console.specs.declared.command.Command.TheVariants.{Letter, Unreadable}
 use Rattle.console.specs.declared.numbers.Numbers.{Numbers}
@@ -165,36 +165,31 @@ pub command_line : (w : List ℕ) (ws : List (List ℕ)) → (w ≡ codes "lette
 unfolding command_words
 command_line w ws other is = rw (other_word w (codes "letter") other, (bytes_eq-Decides w (codes "line")).1 is)
 
-module _ (w : List ℕ) (ws : List (List ℕ)) (not_letter : w ≡ codes "letter" → ⊥) (not-Line : w ≡ codes "line" → ⊥) where
-  pub command_read : w ≡ codes "read" → command_words (w ∷ ws) ≡ read_words ws
-  unfolding command_words
-  command_read is = rw (other_word w (codes "letter") not_letter, other_word w (codes "line") not-Line, (bytes_eq-Decides w (codes "read")).1 is)
-
-  pub command_other : (w ≡ codes "read" → ⊥) → command_words (w ∷ ws) ≡ unreadable
-  unfolding command_words
-  command_other not-read = rw (other_word w (codes "letter") not_letter, other_word w (codes "line") not-Line, other_word w (codes "read") not-read)
+pub command_other : (w : List ℕ) (ws : List (List ℕ)) → (w ≡ codes "letter" → ⊥) → (w ≡ codes "line" → ⊥) → command_words (w ∷ ws) ≡ unreadable
+unfolding command_words
+command_other w ws not_letter not-Line = rw (other_word w (codes "letter") not_letter, other_word w (codes "line") not-Line)
 
 -- what follows of any command follows of what was read
 pub command_cases :
     {B : Type 0} (w : List ℕ) (ws : List (List ℕ)) (r : Reading) → command_words (w ∷ ws) ≡ r → (w ≡ codes "letter" → letter_words ws ≡ r → B)
-    → (w ≡ codes "line" → line_words ws ≡ r → B) → (w ≡ codes "read" → read_words ws ≡ r → B) → (unreadable ≡ r → B) → B
+    → (w ≡ codes "line" → line_words ws ≡ r → B) → (unreadable ≡ r → B) → B
 unfolding command_words
-command_cases {B} w ws r e of-letter of-line of-read other =
-    by_word (codes "letter") e of-letter (λ e. by_word (codes "line") e of-line (λ e. by_word (codes "read") e of-read other))
+command_cases {B} w ws r e of-letter of-line other = first (bytes_eq w (codes "letter")) refl e
   where
-    by_word : (v : List ℕ) {of-v of_others : Reading} → cond (bytes_eq w v) of-v of_others ≡ r → (w ≡ v → of-v ≡ r → B) → (of_others ≡ r → B) → B
-    by_word v {of-v} {of_others} e of_word others = either (bytes_eq w v) refl e
-      where
-        either : (b : Bool) → bytes_eq w v ≡ b → cond b of-v of_others ≡ r → B
-        either true is e = of_word ((bytes_eq-Decides w v).0 is) e
-        either false is e = others e
+    second : (b : Bool) → bytes_eq w (codes "line") ≡ b → cond b (line_words ws) unreadable ≡ r → B
+    second true is e = of-line ((bytes_eq-Decides w (codes "line")).0 is) e
+    second false is e = other e
+
+    first : (b : Bool) → bytes_eq w (codes "letter") ≡ b → cond b (letter_words ws) (cond (bytes_eq w (codes "line")) (line_words ws) unreadable) ≡ r → B
+    first true is e = of-letter ((bytes_eq-Decides w (codes "letter")).0 is) e
+    first false is e = second (bytes_eq w (codes "line")) refl e
 
 pub line_more : (ws : List (List ℕ)) → (ws ≡ [] → ⊥) → line_words ws ≡ unreadable
 unfolding line_words
 line_more [] some = absurd (some refl)
 line_more (w ∷ ws) some = refl
 
--- a letter's words, and those of `line` and of `read`, are never read as anything else
+-- a letter's words, and those of `line`, are never read as anything else
 letter_of_never : {B : Type 0} (name : Option ℕ) (bytes : Option (List ℕ)) {r : Reading} → letter_of name bytes ≡ r → (sort r ≡ 1 → ⊥) → (sort r ≡ 3 → ⊥) → B
 unfolding letter_of
 letter_of_never None bytes e one three = absurd (three (sym (ap sort e)))
@@ -210,16 +205,6 @@ pub line_never : {B : Type 0} (ws : List (List ℕ)) {r : Reading} → line_word
 unfolding line_words
 line_never [] e two three = absurd (two (sym (ap sort e)))
 line_never (w ∷ ws) e two three = absurd (three (sym (ap sort e)))
-
-pub read_never : {B : Type 0} (ws : List (List ℕ)) {r : Reading} → read_words ws ≡ r → (sort r ≡ 4 → ⊥) → (sort r ≡ 3 → ⊥) → B
-unfolding read_words
-read_never [] e four three = absurd (three (sym (ap sort e)))
-read_never {B} (w ∷ []) {r} e four three = either (numeral w) e
-  where
-    either : (b : Bool) → cond b (bits_read w) unreadable ≡ r → B
-    either true e = absurd (four (sym (ap sort e)))
-    either false e = absurd (three (sym (ap sort e)))
-read_never (w ∷ v ∷ ws) e four three = absurd (three (sym (ap sort e)))
 
 -- ---- the whole line
 

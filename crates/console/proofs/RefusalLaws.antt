@@ -1,22 +1,17 @@
--- Letters judged: by name, by length, and byte by byte. The main results are `good_or_refused` and `refused_in_order`. Of bits the
--- first that is none is refused (`first_bad_bit`).
+-- Letters judged: by name, by length, and byte by byte. The main results are `good_or_refused` and `refused_in_order`.
 -- Assumes nothing.
-use Rattle.std.proofs.Common.{◌≡◌, ℕ, zero, suc, ◌+◌, ◌<◌, ◌≤◌, Bool, true, false, cond, ltb, List, [], ◌∷◌, map, length, get_or, drop, Some, None, Option, sym, refl, ap, ◌∙◌, add-one, arith, le-ltb, lt-ltb}
+use Rattle.std.proofs.Common.{◌≡◌, ℕ, zero, suc, ◌+◌, ◌<◌, ◌≤◌, Bool, true, false, cond, ltb, leb, List, [], ◌∷◌, length, get_or, drop, Some, None, Option, refl, ◌∙◌, add-one, arith, le-ltb, lt-ltb}
 use native.Mathlib.Numerals.{suc-eq-add-one}
 use Rattle.std.proofs.lemmas.List.{at_drop_more, at_drop_all}
-use Rattle.std.proofs.lemmas.Bool.{cond-true, ltb-false}
+use Rattle.std.proofs.lemmas.Bool.{and_from, and_parts, cond-true, le-leb, leb-true, ltb-false, ltb-true}
 use Rattle.std.specs.Option.{option_map}
-use Rattle.frame.proofs.GoodLaws.{bytes_cons, bytes_first, good_from, good_parts}
+use Rattle.std.specs.List.{AllByRecursion as All}
 use Rattle.frame.specs.Contents.{contents}
-use Rattle.frame.specs.Good.{all_bytes, good}
+use Rattle.frame.specs.Good.{good}
 use Rattle.frame.specs.declared.frame.Frame.{Frame}
-use Rattle.reader.proofs.PlaceLaws.{PassedTo, passed_none, passed_more, passed_here}
-use Rattle.reader.specs.Reading.{found}
-use Rattle.reader.specs.Seen.{lowest}
 use Rattle.console.proofs.Apart.{some_none}
 use Rattle.console.proofs.ReadingLaws.{mapped_some}
-use Rattle.console.specs.Answers.{answer, read_reply}
-use Rattle.console.specs.Laws.{GoodOrRefused, RefusedInOrder, FirstBadBit}
+use Rattle.console.specs.Laws.{GoodOrRefused, RefusedInOrder}
 use Rattle.console.specs.Refusals.{bad_byte, bad_letter}
 use Rattle.console.specs.declared.refusal.Refusal.TheVariants.{BadLetter}
 
@@ -65,6 +60,21 @@ pub bad_bytes : (n : ℕ) (bs : List ℕ) → n ≤ 2047 → length bs ≤ 8 →
 unfolding bad_letter
 bad_bytes n bs h short = rw (le-ltb _ _ h, le-ltb _ _ short)
 
+-- ---- frames
+
+good_frame : (n : ℕ) (bs : List ℕ) → n ≤ 2047 → length bs ≤ 8 → good n bs ≡ true
+good_frame n bs small few = and_from _ _ (lt-ltb n 2048 (omega arith)) (le-leb (length bs) 8 few)
+
+frame_good : (n : ℕ) (bs : List ℕ) → good n bs ≡ true → (n ≤ 2047) × (length bs ≤ 8)
+frame_good n bs is =
+    let parts = and_parts (ltb n 2048) (leb (length bs) 8) is in
+    let below = ltb-true n 2048 parts.0 in
+    (omega arith, leb-true (length bs) 8 parts.1)
+
+-- a frame is made of a good letter
+pub frame_made : (n : ℕ) (bs : List ℕ) (made : Option Frame) → n ≤ 2047 → length bs ≤ 8 → option_map contents made ≡ cond (good n bs) (Some (n, bs)) None → (f : Frame) × (made ≡ Some f) × (contents f ≡ (n, bs))
+frame_made n bs made small few is = mapped_some contents made (n, bs) (is ∙ cond-true _ _ _ (good_frame n bs small few))
+
 -- ---- good, or refused
 
 cond_none : {A : Type 0} (b : Bool) (x : A) (o : Option A) → cond b (Some x) o ≡ None → (b ≡ false) × (o ≡ None)
@@ -82,29 +92,19 @@ bad_letter_none n bs none =
     let few = cond_none (ltb 8 (length bs)) (BadLetter (length bs)) (bad_byte 0 bs) name.1 in
     (ltb-false 2047 n name.0, ltb-false 8 (length bs) few.0, few.1)
 
-bytes_good : (i : ℕ) (bs : List ℕ) → bad_byte i bs ≡ None → all_bytes bs ≡ true
-unfolding all_bytes
-bytes_good i [] none = refl
-bytes_good i (x ∷ xs) none = let parts = bad_byte_none i x xs none in bytes_cons x xs (omega arith) (bytes_good (suc i) xs parts.1)
+bytes_good : (i : ℕ) (bs : List ℕ) → bad_byte i bs ≡ None → All (λ x. x ≤ 255) bs
+bytes_good i [] none = tt
+bytes_good i (x ∷ xs) none = let parts = bad_byte_none i x xs none in (parts.0, bytes_good (suc i) xs parts.1)
 
-good_bytes : (i : ℕ) (bs : List ℕ) → all_bytes bs ≡ true → bad_byte i bs ≡ None
+good_bytes : (i : ℕ) (bs : List ℕ) → All (λ x. x ≤ 255) bs → bad_byte i bs ≡ None
 unfolding bad_byte
 good_bytes i [] good = refl
-good_bytes i (x ∷ xs) good = let parts = bytes_first x xs good in bad_byte-good i x xs (omega arith) ∙ good_bytes (i + 1) xs parts.1
-
-good_letter : (n : ℕ) (bs : List ℕ) → n ≤ 2047 → length bs ≤ 8 → bad_byte 0 bs ≡ None → good n bs ≡ true
-good_letter n bs small few bytes = good_from n bs (omega arith) few (bytes_good 0 bs bytes)
-
--- a frame is made of a good letter
-pub frame_made :
-    (n : ℕ) (bs : List ℕ) (made : Option Frame) → n ≤ 2047 → length bs ≤ 8 → bad_byte 0 bs ≡ None
-    → option_map contents made ≡ cond (good n bs) (Some (n, bs)) None → (f : Frame) × (made ≡ Some f) × (contents f ≡ (n, bs))
-frame_made n bs made small few bytes is = mapped_some contents made (n, bs) (is ∙ cond-true _ _ _ (good_letter n bs small few bytes))
+good_bytes i (x ∷ xs) good = bad_byte-good i x xs good.0 ∙ good_bytes (i + 1) xs good.1
 
 pub good_or_refused : GoodOrRefused
 good_or_refused n bs = (
-  λ good. let parts = good_parts n bs good in bad_bytes n bs (omega arith) parts.few ∙ good_bytes 0 bs parts.bytes,
-  λ none. let parts = bad_letter_none n bs none in good_letter n bs parts.0 parts.1 parts.2,
+  λ letter. let parts = frame_good n bs letter.frame in bad_bytes n bs parts.0 parts.1 ∙ good_bytes 0 bs letter.bytes,
+  λ none. let parts = bad_letter_none n bs none in record { frame = good_frame n bs parts.0 parts.1; bytes = bytes_good 0 bs parts.2 },
 )
 
 -- where the first bytes are good, the places before i have been passed
@@ -118,15 +118,3 @@ refused_in_order n bs = record {
   many = bad_length n bs;
   byte = λ i small short inside large before. bad_bytes n bs small short ∙ bad_at bs i (good_front bs i (omega arith) before) inside large;
 }
-
--- ---- bits
-
--- where the first digits are bits, the places before i have been passed
-bits_front : (ds : List ℕ) (i : ℕ) → i ≤ length ds → ((j : ℕ) → j < i → get_or ds j 0 ≤ 49) → PassedTo 49 ds i
-bits_front ds zero h bits = passed_none 49 ds
-bits_front ds (suc i) h bits = rw (suc-eq-add-one i) (passed_more 49 ds i (bits_front ds i (omega arith) (λ j less. bits j (omega arith))) (omega arith) (bits i (omega arith)))
-
-pub first_bad_bit : FirstBadBit
-unfolding answer
-first_bad_bit p ds k i inside large before =
-    ap (λ o. read_reply o (found (map lowest ds))) (sym (passed_here 49 ds i (bits_front ds i (omega arith) before) inside large))

@@ -1,6 +1,6 @@
 -- What becomes of a line: what is answered and kept after a letter, of which capping the numbers changes nothing, since a number
--- that is capped is too large in any case (`after_letter`), after `line` (`after_line`) and after `read` (`after_read`); and which
--- letter is the current one after any lines (`line_of_last`).
+-- that is capped is too large in any case (`after_letter`), and after `line` (`after_line`); and which letter is the current one
+-- after any lines (`line_of_last`).
 -- Assumes nothing.
 use Rattle.std.proofs.Common.{◌≡◌, ℕ, zero, suc, ◌+◌, ◌-◌, ◌^◌, ◌<◌, ◌≤◌, cond, ltb, ◌⊎◌, List, [], ◌∷◌, ◌++◌, map, length, get_or, take, set, replicate, Some, None, Option, sym, refl, ap, ◌∙◌, ap₂, inl, inr, arith}
 use native.Mathlib.Nat.{sub-zero}
@@ -12,12 +12,12 @@ use Rattle.frame.specs.Contents.{contents}
 use Rattle.frame.specs.declared.frame.Frame.{Frame}
 use Rattle.console.proofs.Apart.{unlike}
 use Rattle.console.proofs.RefusalLaws.{bad_byte_none, bad_letter_none}
-use Rattle.console.specs.Answers.{answer, bits_reply, line_reply, refused, reply, reply_of}
+use Rattle.console.specs.Answers.{answer, line_reply, refused, reply, reply_of}
 use Rattle.console.specs.Commands.{Holds, Says, capped_reading}
 use Rattle.console.specs.Laws.{RefusedSame, LineOfLast, after_all, last_good, newer}
 use Rattle.console.specs.Numeral.{capped}
 use Rattle.console.specs.Places.{InPlace}
-use Rattle.console.specs.Reading.{Reading, blank, letter, current_line, bits_read, unreadable}
+use Rattle.console.specs.Reading.{Reading, blank, letter, current_line, unreadable}
 use Rattle.console.specs.Refusals.{bad_byte, bad_letter}
 use Rattle.console.specs.Sessions.{State, current_letter, letter_at, kept_letter, no_letters, unless_refused, after}
 use Rattle.console.specs.declared.command.Command.TheVariants.{Blank, Letter, Line, Unreadable}
@@ -125,7 +125,6 @@ unfolding answer after
 after_blank p blank k says = record { answered = refl; kept = refl }
 after_blank p (letter n bs) k says = unlike says (omega arith)
 after_blank p current_line k says = unlike says (omega arith)
-after_blank p (bits_read ds) k says = unlike says (omega arith)
 after_blank p unreadable k says = unlike says (omega arith)
 
 pub after_unreadable : (p : ℕ) (r : Reading) (k : State) → Says Unreadable (capped_reading r) → Becomes p r k (Refused (Text.Unreadable p)) k
@@ -133,7 +132,6 @@ unfolding answer after
 after_unreadable p blank k says = unlike says (omega arith)
 after_unreadable p (letter n bs) k says = unlike says (omega arith)
 after_unreadable p current_line k says = unlike says (omega arith)
-after_unreadable p (bits_read ds) k says = unlike says (omega arith)
 after_unreadable p unreadable k says = record { answered = refl; kept = refl }
 
 pub after_line : (p : ℕ) (r : Reading) (k : State) (a : Answer) → Says Line (capped_reading r) → reply a ≡ line_reply p (current_letter k) → Becomes p r k a k
@@ -141,16 +139,7 @@ unfolding answer after
 after_line p blank k a says answers = unlike says (omega arith)
 after_line p (letter n bs) k a says answers = unlike says (omega arith)
 after_line p current_line k a says answers = record { answered = answers; kept = refl }
-after_line p (bits_read ds) k a says answers = unlike says (omega arith)
 after_line p unreadable k a says answers = unlike says (omega arith)
-
-pub after_read : (p : ℕ) (r : Reading) (k : State) (a : Answer) (ds : List ℕ) → capped_reading r ≡ bits_read ds → reply a ≡ bits_reply ds → Becomes p r k a k
-unfolding answer after
-after_read p blank k a ds says answers = unlike says (omega arith)
-after_read p (letter n bs) k a ds says answers = unlike says (omega arith)
-after_read p current_line k a ds says answers = unlike says (omega arith)
-after_read p (bits_read es) k a ds says answers = let same : ds ≡ es = cc in record { answered = answers ∙ ap bits_reply same; kept = refl }
-after_read p unreadable k a ds says answers = unlike says (omega arith)
 
 module _ (p : ℕ) (k new : State) (name : ℕ) (bytes : Numbers) (a : Answer) where
   pub after_letter : (r : Reading) → Says (Letter name bytes) (capped_reading r)
@@ -160,7 +149,6 @@ module _ (p : ℕ) (k new : State) (name : ℕ) (bytes : Numbers) (a : Answer) w
   unfolding answer after
   after_letter blank (ns, is, holds) answers keeps = unlike is (omega arith)
   after_letter current_line (ns, is, holds) answers keeps = unlike is (omega arith)
-  after_letter (bits_read ds) (ns, is, holds) answers keeps = unlike is (omega arith)
   after_letter unreadable (ns, is, holds) answers keeps = unlike is (omega arith)
   after_letter (letter n bs) (ns, is, holds) answers keeps =
       let named : name ≡ capped n = cc in
@@ -184,7 +172,6 @@ unfolding answer after
 refused_same p blank k x e = refl
 refused_same p (letter n bs) k x e = refused_letter (bad_letter n bs) x (kept_letter n bs k) k e
 refused_same p current_line k x e = refl
-refused_same p (bits_read ds) k x e = refl
 refused_same p unreadable k x e = refl
 
 -- a good letter is the current one, and what isn't good leaves it as it was; the table stays whole
@@ -198,26 +185,24 @@ module _ (n : ℕ) (bs : List ℕ) (k : State) (whole : length k.kept ≡ 2048) 
   kept_current None good = get_or-set_same k.kept n (Some (n, bs)) None (omega (arith, whole, (bad_letter_none n bs good).0))
   kept_current (Some x) bad = refl
 
-after-whole : (r : Reading) (k : State) → length k.kept ≡ 2048 → length (after r k).kept ≡ 2048
+after_whole : (r : Reading) (k : State) → length k.kept ≡ 2048 → length (after r k).kept ≡ 2048
 unfolding after
-after-whole blank k whole = whole
-after-whole (letter n bs) k whole = kept_whole n bs k whole (bad_letter n bs)
-after-whole current_line k whole = whole
-after-whole (bits_read ds) k whole = whole
-after-whole unreadable k whole = whole
+after_whole blank k whole = whole
+after_whole (letter n bs) k whole = kept_whole n bs k whole (bad_letter n bs)
+after_whole current_line k whole = whole
+after_whole unreadable k whole = whole
 
 after_current : (r : Reading) (k : State) → length k.kept ≡ 2048 → current_letter (after r k) ≡ newer r (current_letter k)
 unfolding after newer
 after_current blank k whole = refl
 after_current (letter n bs) k whole = kept_current n bs k whole (bad_letter n bs) refl
 after_current current_line k whole = refl
-after_current (bits_read ds) k whole = refl
 after_current unreadable k whole = refl
 
 after_all_current : (rs : List Reading) (k : State) → length k.kept ≡ 2048 → current_letter (after_all rs k) ≡ last_good rs (current_letter k)
 unfolding after_all last_good
 after_all_current [] k whole = refl
-after_all_current (r ∷ rs) k whole = after_all_current rs (after r k) (after-whole r k whole) ∙ ap (last_good rs) (after_current r k whole)
+after_all_current (r ∷ rs) k whole = after_all_current rs (after r k) (after_whole r k whole) ∙ ap (last_good rs) (after_current r k whole)
 
 pub line_of_last : LineOfLast
 unfolding answer

@@ -1,17 +1,17 @@
--- What is typed is read (`typed_is_read`, `bits_typed`), and what is read was typed (`read_was_typed`, `line_was_typed`,
--- `bits_was_typed`, `blank_is_empty`): the console's language, from outside.
+-- What is typed is read (`typed_is_read`), and what is read was typed (`read_was_typed`, `line_was_typed`, `blank_is_empty`): the
+-- console's language, from outside.
 -- Assumes nothing.
-use Rattle.std.proofs.Common.{◌≡◌, ℕ, ◌+◌, Bool, true, false, cond, eqb, List, [], ◌∷◌, ◌++◌, map, length, get_or, Some, None, codes, Option, sym, refl, ap, ◌∙◌, subst, ap₂, arith, ne_eqb, eqb-true}
-use Rattle.std.proofs.lemmas.Bool.{and_parts, cond-false, cond-true, leb-true}
+use Rattle.std.proofs.Common.{◌≡◌, ℕ, ◌+◌, Bool, true, false, cond, eqb, List, [], ◌∷◌, ◌++◌, map, length, Some, None, codes, Option, sym, refl, ap, ◌∙◌, ap₂, arith, ne_eqb, eqb-true}
+use Rattle.std.proofs.lemmas.Bool.{and_parts, leb-true}
 use Rattle.std.specs.Char.{is_ascii_digit}
 use Rattle.std.specs.List.{AllByRecursion as All}
 use Rattle.std.specs.Str.{all_ascii_digits}
 use Rattle.console.proofs.Apart.{none_some, unlike}
-use Rattle.console.proofs.ReadingLaws.{mapped_some, before_colon_push, before_colon_some, command_cases, command_letter, command_read, letter_never, line_never, read_never, reading_some}
+use Rattle.console.proofs.ReadingLaws.{mapped_some, before_colon_push, before_colon_some, command_cases, command_letter, letter_never, line_never, reading_some}
 use Rattle.console.proofs.WordLaws.{words_at_other, words_some}
-use Rattle.console.specs.Laws.{SpacedWords, WordsSpaced, BlankIsEmpty, Unspaced, IsNumeral, typed, TypedIsRead, ReadWasTyped, LineWasTyped, BitsTyped, BitsWasTyped}
+use Rattle.console.specs.Laws.{SpacedWords, WordsSpaced, BlankIsEmpty, Unspaced, IsNumeral, typed, TypedIsRead, ReadWasTyped, LineWasTyped}
 use Rattle.console.specs.Numeral.{numeral, value, number_in}
-use Rattle.console.specs.Reading.{reading, command_words, letter_words, letter_of, line_words, read_words, name_from, before_colon, in_front, numbers, blank, letter, current_line, bits_read, unreadable}
+use Rattle.console.specs.Reading.{reading, command_words, letter_words, letter_of, line_words, name_from, before_colon, in_front, numbers, blank, letter, current_line}
 use Rattle.console.specs.Words.{words, spaced, onto_first}
 
 -- ---- words and spaces
@@ -164,8 +164,7 @@ command_typed : (ws : List (List ℕ)) (n : ℕ) (bs : List ℕ) → command_wor
 unfolding command_words
 command_typed [] n bs e = unlike e (omega arith)
 command_typed (w ∷ ws) n bs e =
-    command_cases w ws (letter n bs) e (λ is e. rw is (letter_typed ws n bs e)) (λ is e. line_never ws e (omega arith) (omega arith))
-    (λ is e. read_never ws e (omega arith) (omega arith)) (λ e. unlike e (omega arith))
+    command_cases w ws (letter n bs) e (λ is e. rw is (letter_typed ws n bs e)) (λ is e. line_never ws e (omega arith) (omega arith)) (λ e. unlike e (omega arith))
 
 reading-typed : (t : List ℕ) (n : ℕ) (bs : List ℕ) → reading t ≡ letter n bs → TypedWords (words t) n bs
 unfolding reading
@@ -189,64 +188,12 @@ line-typed : (ws : List (List ℕ)) → command_words ws ≡ current_line → ws
 unfolding command_words
 line-typed [] e = unlike e (omega arith)
 line-typed (w ∷ ws) e =
-    command_cases w ws current_line e (λ is e. letter_never ws e (omega arith) (omega arith)) (λ is e. ap₂ ◌∷◌ is (line_alone ws e))
-    (λ is e. read_never ws e (omega arith) (omega arith)) (λ e. unlike e (omega arith))
+    command_cases w ws current_line e (λ is e. letter_never ws e (omega arith) (omega arith)) (λ is e. ap₂ ◌∷◌ is (line_alone ws e)) (λ e. unlike e (omega arith))
 
 pub line_was_typed : LineWasTyped
 unfolding reading spaced
 line_was_typed [] e = unlike e (omega arith)
 line_was_typed (c ∷ cs) e = sym (spaced-words (c ∷ cs)) ∙ ap spaced (line-typed (words (c ∷ cs)) e)
-
--- ---- the command `read`
-
--- what stands behind the word is the digits, or it can't be read
-pub read-digits : (t : List ℕ) → IsNumeral t → read_words (words t) ≡ bits_read t
-unfolding read_words
-read-digits t is = ap read_words (words_one t (numeral_unspaced t is)) ∙ cond-true _ _ _ is
-
-pub read_other : (t : List ℕ) → numeral t ≡ false → read_words (words t) ≡ unreadable
-unfolding read_words spaced
-read_other t other = by_words (words t) (spaced-words t)
-  where
-    by_words : (ws : List (List ℕ)) → spaced ws ≡ t → read_words ws ≡ unreadable
-    by_words [] e = refl
-    by_words (w ∷ []) e = ap (λ v. cond (numeral v) (bits_read v) unreadable) e ∙ cond-false _ _ _ other
-    by_words (w ∷ v ∷ ws) e = refl
-
-read_unspaced : Unspaced (codes "read")
-read_unspaced = (λ e. omega arith, (λ e. omega arith, (λ e. omega arith, (λ e. omega arith, tt))))
-
-bits_some : (ds : List ℕ) → length (spaced (codes "read" ∷ (ds ∷ []))) ≡ 0 → ⊥
-unfolding spaced
-bits_some ds e = omega arith
-
-pub bits_typed : BitsTyped
-unfolding read_words
-bits_typed ds is =
-    reading_some _ (bits_some ds) ∙ ap command_words (words-spaced (codes "read") (ds ∷ []) read_unspaced (numeral_unspaced ds is, tt))
-    ∙ command_read (codes "read") (ds ∷ []) (λ e. omega (arith, ap (λ l. get_or l 0 0) e)) (λ e. omega (arith, ap (λ l. get_or l 0 0) e)) refl ∙ cond-true _ _ _ is
-
-digits_alone : (ws : List (List ℕ)) (ds : List ℕ) → read_words ws ≡ bits_read ds → IsNumeral ds × (ws ≡ ds ∷ [])
-unfolding read_words
-digits_alone [] ds e = unlike e (omega arith)
-digits_alone (w ∷ []) ds e = either (numeral w) refl e
-  where
-    either : (b : Bool) → numeral w ≡ b → cond b (bits_read w) unreadable ≡ bits_read ds → IsNumeral ds × (w ∷ [] ≡ ds ∷ [])
-    either true is e = let same : w ≡ ds = cc in (subst IsNumeral same is, ap (λ v. v ∷ []) same)
-    either false is e = unlike e (omega arith)
-digits_alone (w ∷ v ∷ ws) ds e = unlike e (omega arith)
-
-bits_words : (ws : List (List ℕ)) (ds : List ℕ) → command_words ws ≡ bits_read ds → IsNumeral ds × (ws ≡ codes "read" ∷ (ds ∷ []))
-unfolding command_words
-bits_words [] ds e = unlike e (omega arith)
-bits_words (w ∷ ws) ds e =
-    command_cases w ws (bits_read ds) e (λ is e. letter_never ws e (omega arith) (omega arith)) (λ is e. line_never ws e (omega arith) (omega arith))
-    (λ is e. let alone = digits_alone ws ds e in (alone.0, ap₂ ◌∷◌ is alone.1)) (λ e. unlike e (omega arith))
-
-pub bits_was_typed : BitsWasTyped
-unfolding reading
-bits_was_typed [] ds e = unlike e (omega arith)
-bits_was_typed (c ∷ cs) ds e = let so = bits_words (words (c ∷ cs)) ds e in (so.0, sym (spaced-words (c ∷ cs)) ∙ ap spaced so.1)
 
 -- ---- blank lines
 
@@ -254,8 +201,7 @@ command_not_blank : (ws : List (List ℕ)) → command_words ws ≡ blank → �
 unfolding command_words
 command_not_blank [] e = unlike e (omega arith)
 command_not_blank (w ∷ ws) e =
-    command_cases w ws blank e (λ is e. letter_never ws e (omega arith) (omega arith)) (λ is e. line_never ws e (omega arith) (omega arith))
-    (λ is e. read_never ws e (omega arith) (omega arith)) (λ e. unlike e (omega arith))
+    command_cases w ws blank e (λ is e. letter_never ws e (omega arith) (omega arith)) (λ is e. line_never ws e (omega arith) (omega arith)) (λ e. unlike e (omega arith))
 
 pub blank_is_empty : BlankIsEmpty
 unfolding reading

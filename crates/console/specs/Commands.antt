@@ -1,6 +1,5 @@
 -- What the code's commands say. A command holds numbers of 64 bits, the largest of which stands for each larger one; and of
--- the numbers behind a letter's name it holds how many there are, and the first eight. The digits behind `read` it holds as they
--- stand in the line.
+-- the numbers behind a letter's name it holds how many there are, and the first eight.
 -- Assumes nothing: these are definitions.
 --
 --   capped_reading r   what was read as r, with its numbers capped
@@ -9,16 +8,15 @@
 --   Says k r           the command k says what was read as r
 use Rattle.std.specs.Prelude.{◌≡◌, ℕ, List, map, length, take, Some, None, Option}
 use Rattle.console.specs.Numeral.{capped}
-use Rattle.console.specs.Reading.{Reading, blank, letter, current_line, bits_read, unreadable}
+use Rattle.console.specs.Reading.{Reading, blank, letter, current_line, unreadable}
 use Rattle.console.specs.declared.command.Command.{Command}
-use Rattle.console.specs.declared.command.Command.TheVariants.{Blank, Letter, Line, Read, Unreadable}
+use Rattle.console.specs.declared.command.Command.TheVariants.{Blank, Letter, Line, Unreadable}
 use Rattle.console.specs.declared.numbers.Numbers.{Numbers}
 
 abbrev pub capped_reading : Reading → Reading
 capped_reading blank = blank
 capped_reading (letter name bytes) = letter (capped name) (map capped bytes)
 capped_reading current_line = current_line
-capped_reading (bits_read digits) = bits_read digits
 capped_reading unreadable = unreadable
 
 pub record Holds (x : Numbers) (ns : List ℕ) : Type 0 where
@@ -35,5 +33,4 @@ abbrev pub Says : Command → Reading → Type 0
 Says Blank r = r ≡ blank
 Says (Letter name bytes) r = (ns : List ℕ) × (r ≡ letter name ns) × Holds bytes ns
 Says Line r = r ≡ current_line
-Says (Read digits) r = r ≡ bits_read digits.now
 Says Unreadable r = r ≡ unreadable

@@ -10,38 +10,29 @@
 --   TypedIsRead      a letter that is typed, with any digits, is read as the letter of the numbers that they write
 --   ReadWasTyped     what is read as a letter was typed so
 --   LineWasTyped     only the text `line` is read as that command
---   BitsTyped         digits behind `read`, one at least, are read as that command
---   BitsWasTyped     what is read as `read` was typed so
---   ShownIsTyped     what is printed of a good letter is read as this letter
---   PrintedIsRead    a good letter's line behind `read`, as `line` prints it and with any bits behind it, is answered by that letter and
---                      where its line ends
---   ReadIsLine       what is answered by a letter was typed as `read` and that letter's line, with something behind it or nothing; the
---                      letter is good, and ends where its line does
+--   Good n bs          a letter of which a good frame can be made, and none of its bytes is above 255
 --   GoodOrRefused    a letter is good if and only if it is not refused
 --   InOrder n bs      what is refused of a letter, in the order of the questions
 --   RefusedInOrder   a name that is too large is refused at 0; else too many bytes at their number; else the first byte
 --                      that is too large at its place
---   FirstBadBit      of digits above 1 the first is refused, at its place
 --   RefusedSame       what is refused changes nothing
 --   after_all rs k     what is kept after lines that were read as rs, where k was kept
 --   newer r o          the last good letter once r was read, where it was o
 --   last_good rs o     the last good letter once rs were read, where it was o
 --   LineOfLast       after any lines, `line` is answered by the line of the last good letter among them, and refused if there
 --                      was none
---   Examples           some lines, and what they say or why they are refused; and what is printed of some replies
-use Rattle.std.specs.Prelude.{◌≡◌, ℕ, ◌<◌, ◌≤◌, Bool, true, List, [], ◌∷◌, ◌++◌, map, length, Some, None, codes, Option, ◌≢◌, slice_index}
+--   Examples           some lines, and what they say or why they are refused
+use Rattle.std.specs.Prelude.{◌≡◌, ℕ, ◌<◌, ◌≤◌, true, List, [], ◌∷◌, ◌++◌, map, length, Some, None, codes, Option, ◌≢◌, slice_index}
 use Rattle.std.specs.List.{AllByRecursion as All}
-use Rattle.frame.specs.Digits.{digits}
 use Rattle.frame.specs.Good.{good}
-use Rattle.frame.specs.Line.{line}
-use Rattle.console.specs.Answers.{answer, letter_read, letter_text, line_reply, refused, reply_text}
+use Rattle.console.specs.Answers.{answer, line_reply, refused, reply_text}
 use Rattle.console.specs.Numeral.{numeral, value}
-use Rattle.console.specs.Reading.{Reading, reading, blank, letter, current_line, bits_read, unreadable}
+use Rattle.console.specs.Reading.{Reading, reading, blank, letter, current_line, unreadable}
 use Rattle.console.specs.Refusals.{bad_letter}
 use Rattle.console.specs.Sessions.{State, no_letters, unless_refused, after}
 use Rattle.console.specs.Words.{words, spaced}
 use Rattle.console.specs.declared.refusal.Refusal.{Refusal}
-use Rattle.console.specs.declared.refusal.Refusal.TheVariants.{BadLetter, BadBit, Unreadable}
+use Rattle.console.specs.declared.refusal.Refusal.TheVariants.{BadLetter, Unreadable}
 
 abbrev pub SpacedWords : Type 0
 SpacedWords = (t : List ℕ) → spaced (words t) ≡ t
@@ -72,27 +63,12 @@ ReadWasTyped =
 abbrev pub LineWasTyped : Type 0
 LineWasTyped = (t : List ℕ) → reading t ≡ current_line → t ≡ codes "line"
 
-abbrev pub BitsTyped : Type 0
-BitsTyped = (ds : List ℕ) → IsNumeral ds → reading (spaced (codes "read" ∷ (ds ∷ []))) ≡ bits_read ds
-
-abbrev pub BitsWasTyped : Type 0
-BitsWasTyped = (t ds : List ℕ) → reading t ≡ bits_read ds → IsNumeral ds × (t ≡ spaced (codes "read" ∷ (ds ∷ [])))
-
-abbrev pub ShownIsTyped : Type 0
-ShownIsTyped = (n : ℕ) (bs : List ℕ) → good n bs ≡ true → reading (letter_text n bs) ≡ letter n bs
-
-abbrev pub PrintedIsRead : Type 0
-PrintedIsRead =
-    (p n : ℕ) (bs : List ℕ) (w : List Bool) (k : State) → good n bs ≡ true →
-    answer p (reading (codes "read " ++ digits (line n bs ++ w))) k ≡ letter_read n bs (length (line n bs))
-
-abbrev pub ReadIsLine : Type 0
-ReadIsLine =
-    (p : ℕ) (t : List ℕ) (k : State) (n : ℕ) (bs : List ℕ) (e : ℕ) → answer p (reading t) k ≡ letter_read n bs e →
-    (w : List ℕ) × (good n bs ≡ true) × (t ≡ codes "read " ++ (digits (line n bs) ++ w)) × (e ≡ length (line n bs))
+pub record Good (n : ℕ) (bs : List ℕ) : Type 0 where
+  pub frame : good n bs ≡ true
+  pub bytes : All (λ x. x ≤ 255) bs
 
 abbrev pub GoodOrRefused : Type 0
-GoodOrRefused = (n : ℕ) (bs : List ℕ) → (good n bs ≡ true → bad_letter n bs ≡ None) × (bad_letter n bs ≡ None → good n bs ≡ true)
+GoodOrRefused = (n : ℕ) (bs : List ℕ) → (Good n bs → bad_letter n bs ≡ None) × (bad_letter n bs ≡ None → Good n bs)
 
 pub record InOrder (n : ℕ) (bs : List ℕ) : Type 0 where
   pub name : 2047 < n → bad_letter n bs ≡ Some (BadLetter 0)
@@ -101,11 +77,6 @@ pub record InOrder (n : ℕ) (bs : List ℕ) : Type 0 where
 
 abbrev pub RefusedInOrder : Type 0
 RefusedInOrder = (n : ℕ) (bs : List ℕ) → InOrder n bs
-
-abbrev pub FirstBadBit : Type 0
-FirstBadBit =
-    (p : ℕ) (ds : List ℕ) (k : State) (i : ℕ) → i < length ds → 49 < slice_index ds i → ((j : ℕ) → j < i → slice_index ds j ≤ 49)
-    → answer p (bits_read ds) k ≡ refused (BadBit i)
 
 abbrev pub RefusedSame : Type 0
 RefusedSame = (p : ℕ) (r : Reading) (k : State) (x : Refusal) → answer p r k ≡ refused x → after r k ≡ k
@@ -118,7 +89,6 @@ unfoldable pub newer : Reading → Option (ℕ × List ℕ) → Option (ℕ × L
 newer blank o = o
 newer (letter n bs) o = unless_refused (bad_letter n bs) (Some (n, bs)) o
 newer current_line o = o
-newer (bits_read ds) o = o
 newer unreadable o = o
 
 unfoldable pub last_good : List Reading → Option (ℕ × List ℕ) → Option (ℕ × List ℕ)
@@ -140,25 +110,11 @@ pub record Examples : Type 0 where
   pub line : reading (codes "line") ≡ current_line
   pub line_space : reading (codes "line ") ≡ unreadable
   pub line_name : reading (codes "line 5") ≡ unreadable
-  pub bits : reading (codes "read 0110") ≡ bits_read (codes "0110")
-  pub no_bit : reading (codes "read 0121") ≡ bits_read (codes "0121")
-  pub no_digit : reading (codes "read 01a1") ≡ unreadable
-  pub no_digits : reading (codes "read") ≡ unreadable
-  pub read_space : reading (codes "read ") ≡ unreadable
-  pub two_words : reading (codes "read 01 1") ≡ unreadable
   pub large_name : answer 7 (reading (codes "letter 2048: 256")) no_letters ≡ refused (BadLetter 0)
   pub nine_bytes : answer 7 (reading (codes "letter 2047: 1 2 3 4 5 6 7 8 256")) no_letters ≡ refused (BadLetter 9)
   pub large_byte : answer 7 (reading (codes "letter 5: 1 256 257")) no_letters ≡ refused (BadLetter 1)
-  pub large_bit : answer 7 (reading (codes "read 0121")) no_letters ≡ refused (BadBit 2)
-  pub no_digit_behind : answer 7 (reading (codes "read 2a")) no_letters ≡ refused (Unreadable 7)
   pub no_command : answer 7 (reading (codes "lettre 5: 1")) no_letters ≡ refused (Unreadable 7)
   pub line_at_first : answer 7 (reading (codes "line")) no_letters ≡ refused (Unreadable 7)
   pub line_of_5 :
       reply_text (answer 1 (reading (codes "line")) (after (reading (codes "letter 5: 1")) no_letters))
       ≡ codes "000001000010100010000010010101011110111011111111\n"
-  pub read_5 :
-      reply_text (answer 1 (reading (codes "read 00000100001010001000001001010101111011101111111101")) no_letters) ≡ codes "letter 5: 1\nends 48\n"
-  pub read_cut : reply_text (answer 1 (reading (codes "read 0000010000101000100000100101010111101110111111")) no_letters) ≡ codes "nothing\n"
-  pub shown_5 : reply_text (letter_read 5 (1 ∷ 255 ∷ []) 56) ≡ codes "letter 5: 1 255\nends 56\n"
-  pub shown_0 : reply_text (letter_read 0 [] 44) ≡ codes "letter 0:\nends 44\n"
-  pub shown_refusal : reply_text (refused (BadBit 2)) ≡ codes "refused 2 at 2\n"

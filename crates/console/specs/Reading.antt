@@ -1,7 +1,6 @@
 -- What a line of text says to the console. A line is blank, or it is a command; any other line can't be read. The command
 -- `letter`, as in `letter 5: 1 2 3`, has a name with a colon and any number of bytes: whether such a letter is good is asked
--- later. The command `line` has nothing behind it. The command `read`, as in `read 0101`, has one word of digits behind it:
--- whether each of them is a bit is asked later.
+-- later. The command `line` has nothing behind it.
 -- Assumes nothing: these are definitions.
 --
 --   Reading            what a line says
@@ -9,7 +8,6 @@
 --   command_words ws   what a line with the words ws says
 --   letter_words ws    what the words ws say behind the word `letter`
 --   line_words ws      what the words ws say behind the word `line`
---   read_words ws      what the words ws say behind the word `read`
 --   letter_of n bs     the letter with the name n and the bytes bs, if both could be read
 --   before_colon w     what stands before the colon that ends the word w, or nothing where no colon ends it
 --   name_from d        the number that the digits d write, if there are such
@@ -18,14 +16,13 @@
 use Rattle.std.specs.Prelude.{ℕ, cond, List, [], ◌∷◌, Some, None, codes, Option, ◌==◌}
 use Rattle.std.specs.Option.{option_map}
 use Rattle.std.specs.Str.{bytes_eq}
-use Rattle.console.specs.Numeral.{numeral, number_in}
+use Rattle.console.specs.Numeral.{number_in}
 use Rattle.console.specs.Words.{words}
 
 pub data Reading : Type 0 where
   blank : Reading
   letter : (name : ℕ) → (bytes : List ℕ) → Reading
   current_line : Reading
-  bits_read : (digits : List ℕ) → Reading
   unreadable : Reading
 
 unfoldable pub before_colon : List ℕ → Option (List ℕ)
@@ -58,16 +55,10 @@ unfoldable pub line_words : List (List ℕ) → Reading
 line_words [] = current_line
 line_words (w ∷ ws) = unreadable
 
-unfoldable pub read_words : List (List ℕ) → Reading
-read_words [] = unreadable
-read_words (w ∷ []) = cond (numeral w) (bits_read w) unreadable
-read_words (w ∷ v ∷ ws) = unreadable
-
 unfoldable pub command_words : List (List ℕ) → Reading
 command_words [] = unreadable
 command_words (w ∷ ws) =
-    cond (bytes_eq w (codes "letter")) (letter_words ws)
-    (cond (bytes_eq w (codes "line")) (line_words ws) (cond (bytes_eq w (codes "read")) (read_words ws) unreadable))
+    cond (bytes_eq w (codes "letter")) (letter_words ws) (cond (bytes_eq w (codes "line")) (line_words ws) unreadable)
 
 unfoldable pub reading : List ℕ → Reading
 reading [] = blank

@@ -5,15 +5,13 @@
 --   bad_letter n bs    the refusal of the letter with the name n and the bytes bs, or nothing if it is good: a name above
 --                      2047 first, then more than eight bytes, then a byte above 255
 --   Judged n bs r      r is the frame of the letter with the name n and the bytes bs, if it is good, else its refusal
---   refusal_number x   1 for a letter that isn't good, 2 for a bit that is neither 0 nor 1, 4 for a text that can't be read or
---                      asks for what isn't there
---   refusal_place x    where: 0 for a name, else how many bytes there are, else the byte's place; for a bit its place among
---                      the digits; for a text its line
+--   refusal_number x   1 for a letter that isn't good, 4 for a text that can't be read or asks for what isn't there
+--   refusal_place x    where: 0 for a name, else how many bytes there are, else the byte's place; for a text its line
 use Rattle.std.specs.Prelude.{◌≡◌, ℕ, suc, cond, List, [], ◌∷◌, length, Some, None, Ok, Err, Option, Result, nat_lt}
 use Rattle.frame.specs.Contents.{contents}
 use Rattle.frame.specs.declared.frame.Frame.{Frame}
 use Rattle.console.specs.declared.refusal.Refusal.{Refusal}
-use Rattle.console.specs.declared.refusal.Refusal.TheVariants.{BadLetter, BadBit, Unreadable}
+use Rattle.console.specs.declared.refusal.Refusal.TheVariants.{BadLetter, Unreadable}
 
 unfoldable pub bad_byte : ℕ → List ℕ → Option Refusal
 bad_byte i [] = None
@@ -29,10 +27,8 @@ Judged n bs (Err x) = bad_letter n bs ≡ Some x
 
 abbrev pub refusal_number : Refusal → ℕ
 refusal_number (BadLetter place) = 1
-refusal_number (BadBit place) = 2
 refusal_number (Unreadable line) = 4
 
 abbrev pub refusal_place : Refusal → ℕ
 refusal_place (BadLetter place) = place
-refusal_place (BadBit place) = place
 refusal_place (Unreadable line) = line

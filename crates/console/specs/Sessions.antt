@@ -14,7 +14,7 @@
 use Rattle.std.specs.Prelude.{ℕ, List, map, replicate, Some, None, vec_items, Option, slice_index_or, slice_set}
 use Rattle.std.specs.Option.{option_map}
 use Rattle.frame.specs.Contents.{contents}
-use Rattle.console.specs.Reading.{Reading, blank, letter, current_line, bits_read, unreadable}
+use Rattle.console.specs.Reading.{Reading, blank, letter, current_line, unreadable}
 use Rattle.console.specs.Refusals.{bad_letter}
 use Rattle.console.specs.declared.refusal.Refusal.{Refusal}
 use Rattle.console.specs.declared.session.Session.{Session}
@@ -47,5 +47,4 @@ unfoldable pub after : Reading → State → State
 after blank k = k
 after (letter n bs) k = unless_refused (bad_letter n bs) (kept_letter n bs k) k
 after current_line k = k
-after (bits_read ds) k = k
 after unreadable k = k

@@ -2,7 +2,7 @@
 ghost use Rattle.std.specs.Prelude.{◌≡◌, ℕ, List, IfOk};
 ghost use Rattle.std.specs.Option.{option_map};
 ghost use Rattle.frame.specs.Contents.{contents, frame_data};
-ghost use Rattle.console.specs.Answers.{answer, bits_reply, line_reply, reply, reply_of};
+ghost use Rattle.console.specs.Answers.{answer, line_reply, reply, reply_of};
 ghost use Rattle.console.specs.Commands.{Holds};
 ghost use Rattle.console.specs.Reading.{reading};
 ghost use Rattle.console.specs.Refusals.{bad_letter};
@@ -15,13 +15,9 @@ use crate::refusal::Refusal;
 use crate::session::Session;
 use crate::text::Answer;
 use frame::{Frame, Line};
-use reader::{Reading, place_above};
 use std::alloc::{AllocError, Global};
 
 const NAMES: usize = 2048;
-
-// The largest digit that is a bit.
-const LARGEST_BIT: u8 = b'1';
 
 impl Session {
     // A session that keeps no letter yet.
@@ -45,7 +41,6 @@ impl Session {
             Command::Blank => Answer::Nothing,
             Command::Letter { name, bytes } => self.letter(name, &bytes),
             Command::Line => self.line(place),
-            Command::Read { digits } => answer_bits(digits),
             Command::Unreadable => Answer::Refused(Refusal::Unreadable(place)),
         }
     }
@@ -89,22 +84,5 @@ impl Session {
         let name = frame.id();
         self.kept[name as usize] = Some(frame);
         self.current = Some(name);
-    }
-}
-
-// The letter whose line stands at the beginning of these digits, if there is one; or a refusal where one of them is no bit. The
-// digit of a low bit is even and that of a high one odd, so that the digits are read as they stand in the text.
-fn answer_bits(digits: &[u8]) -> Answer
-    ensures { reply result ≡ bits_reply digits.now }
-{
-    if let Some(place) = place_above(LARGEST_BIT, digits) {
-        return Answer::Refused(Refusal::BadBit(place as u64));
-    }
-    match Reading::of(digits) {
-        Reading::Frame(frame, end) => Answer::Read {
-            frame,
-            end: end as u64,
-        },
-        Reading::Nothing => Answer::NoLine,
     }
 }

@@ -3,34 +3,30 @@ ghost use Rattle.std.specs.Prelude.{◌≡◌, map};
 ghost use Rattle.std.specs.Option.{option_map};
 ghost use Rattle.console.specs.Commands.{HoldsIf, Says, capped_reading};
 ghost use Rattle.console.specs.Numeral.{capped};
-ghost use Rattle.console.specs.Reading.{reading, letter_words, line_words, read_words, name_from, numbers, before_colon};
+ghost use Rattle.console.specs.Reading.{reading, letter_words, line_words, name_from, numbers, before_colon};
 ghost use Rattle.console.specs.Words.{words_behind};
 
 use crate::numbers::Numbers;
-use crate::numeral::{is_numeral, read_number};
+use crate::numeral::read_number;
 use crate::words::cut_word;
 
 const LETTER: &[u8] = b"letter";
 
 const LINE: &[u8] = b"line";
 
-const READ: &[u8] = b"read";
-
 const COLON: &[u8] = b":";
 
-// What a line says. Nothing is known of its numbers yet, but that the largest of 64 bits stands for each larger one; nor of its
-// bits, but that they are digits.
+// What a line says. Nothing is known of its numbers yet, but that the largest of 64 bits stands for each larger one.
 #[derive(Clone, Copy)]
-pub enum Command<'a> {
+pub enum Command {
     Blank,
     Letter { name: u64, bytes: Numbers },
     Line,
-    Read { digits: &'a [u8] },
     Unreadable,
 }
 
 // What a line with this text says.
-pub fn read_command(text: &[u8]) -> Command<'_>
+pub fn read_command(text: &[u8]) -> Command
     ensures { Says result (capped_reading (reading text.now)) }
 {
     if text.is_empty() {
@@ -41,15 +37,13 @@ pub fn read_command(text: &[u8]) -> Command<'_>
         read_letter(cut.behind)
     } else if cut.word == LINE {
         read_line(cut.behind)
-    } else if cut.word == READ {
-        read_digits(cut.behind)
     } else {
         Command::Unreadable
     }
 }
 
 // What the command `letter` says, if `text` is what stands behind that word.
-fn read_letter(text: Option<&[u8]>) -> Command<'_>
+fn read_letter(text: Option<&[u8]>) -> Command
     ensures { Says result (capped_reading (letter_words (words_behind text.entry))) }
 {
     let Some(text) = text else {
@@ -66,26 +60,12 @@ fn read_letter(text: Option<&[u8]>) -> Command<'_>
 }
 
 // What the command `line` says, if `text` is what stands behind that word.
-fn read_line(text: Option<&[u8]>) -> Command<'_>
+fn read_line(text: Option<&[u8]>) -> Command
     ensures { Says result (capped_reading (line_words (words_behind text.entry))) }
 {
     match text {
         None => Command::Line,
         Some(_) => Command::Unreadable,
-    }
-}
-
-// What the command `read` says, if `text` is what stands behind that word. A space is no digit, so that digits are one word.
-fn read_digits(text: Option<&[u8]>) -> Command<'_>
-    ensures { Says result (capped_reading (read_words (words_behind text.entry))) }
-{
-    let Some(digits) = text else {
-        return Command::Unreadable;
-    };
-    if is_numeral(digits) {
-        Command::Read { digits }
-    } else {
-        Command::Unreadable
     }
 }
 

@@ -1,5 +1,5 @@
 // The laws of texts, refusals and sessions: each function's contract is one of them, and the function does nothing.
-ghost use Rattle.console.specs.Laws.{SpacedWords, WordsSpaced, BlankIsEmpty, TypedIsRead, ReadWasTyped, LineWasTyped, BitsTyped, BitsWasTyped, ShownIsTyped, PrintedIsRead, ReadIsLine, GoodOrRefused, RefusedInOrder, FirstBadBit, RefusedSame, LineOfLast, Examples};
+ghost use Rattle.console.specs.Laws.{SpacedWords, WordsSpaced, BlankIsEmpty, TypedIsRead, ReadWasTyped, LineWasTyped, GoodOrRefused, RefusedInOrder, RefusedSame, LineOfLast, Examples};
 
 pub fn spaced_words()
     ensures { SpacedWords }
@@ -25,36 +25,12 @@ pub fn line_was_typed()
     ensures { LineWasTyped }
 {}
 
-pub fn bits_typed()
-    ensures { BitsTyped }
-{}
-
-pub fn bits_was_typed()
-    ensures { BitsWasTyped }
-{}
-
-pub fn shown_is_typed()
-    ensures { ShownIsTyped }
-{}
-
-pub fn printed_is_read()
-    ensures { PrintedIsRead }
-{}
-
-pub fn read_is_line()
-    ensures { ReadIsLine }
-{}
-
 pub fn good_or_refused()
     ensures { GoodOrRefused }
 {}
 
 pub fn refused_in_order()
     ensures { RefusedInOrder }
-{}
-
-pub fn first_bad_bit()
-    ensures { FirstBadBit }
 {}
 
 pub fn refused_same()

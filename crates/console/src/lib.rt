@@ -3,7 +3,6 @@ mod answer;
 mod command;
 mod judge;
 pub mod laws;
-mod letter;
 mod numbers;
 mod numeral;
 mod refusal;

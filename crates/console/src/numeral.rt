@@ -1,19 +1,7 @@
 // Numbers in decimal digits.
 ghost use Rattle.std.specs.Prelude.{◌≡◌};
 ghost use Rattle.std.specs.Option.{option_map};
-ghost use Rattle.console.specs.Numeral.{numeral, number_in, capped};
-
-// Whether `word` is digits, one at least, and nothing else.
-pub fn is_numeral(word: &[u8]) -> bool
-    ensures { result ≡ numeral word.now }
-{
-    for b in word {
-        if !b.is_ascii_digit() {
-            return false;
-        }
-    }
-    !word.is_empty()
-}
+ghost use Rattle.console.specs.Numeral.{number_in, capped};
 
 // The number that the digits of `word` write, of any length; the largest of 64 bits stands for each larger one.
 pub fn read_number(word: &[u8]) -> Option<u64>

@@ -6,8 +6,6 @@ ghost use Rattle.console.specs.Refusals.{refusal_number, refusal_place};
 pub enum Refusal {
     // A letter that isn't good: 0 for its name, else how many bytes it has, else the place of the first byte above 255.
     BadLetter(u64),
-    // A bit that is neither 0 nor 1: its place among the digits.
-    BadBit(u64),
     // A text that can't be read, or asks for what isn't there: the place of its line.
     Unreadable(u64),
 }
@@ -19,7 +17,6 @@ impl Refusal {
     {
         match self {
             Refusal::BadLetter(_) => 1,
-            Refusal::BadBit(_) => 2,
             Refusal::Unreadable(_) => 4,
         }
     }
@@ -29,7 +26,6 @@ impl Refusal {
     {
         match self {
             Refusal::BadLetter(place) => place,
-            Refusal::BadBit(place) => place,
             Refusal::Unreadable(line) => line,
         }
     }

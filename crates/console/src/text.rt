@@ -2,9 +2,8 @@
 ghost use Rattle.std.specs.Prelude.{Some};
 ghost use Rattle.console.specs.Answers.{reply, reply_text};
 
-use crate::letter::Typed;
 use crate::refusal::Refusal;
-use frame::{Frame, Line};
+use frame::Line;
 use std::fmt;
 
 // What is answered to a line.
@@ -14,10 +13,6 @@ pub enum Answer {
     Nothing,
     // The current letter's line.
     Line(Line),
-    // The letter whose line stands at the beginning of what was read, and where that line ends.
-    Read { frame: Frame, end: u64 },
-    // No good letter's line stands there.
-    NoLine,
     Refused(Refusal),
 }
 
@@ -28,11 +23,6 @@ impl fmt::Display for Answer {
         match self {
             Answer::Nothing => write!(f, ""),
             Answer::Line(line) => writeln!(f, "{line}"),
-            Answer::Read { frame, end } => {
-                let letter = Typed { frame: *frame };
-                writeln!(f, "{letter}\nends {end}")
-            }
-            Answer::NoLine => writeln!(f, "nothing"),
             Answer::Refused(refusal) => {
                 let number = refusal.number();
                 let place = refusal.place();

@@ -3,7 +3,7 @@
 use Rattle.std.proofs.Common.{◌≡◌, ℕ, ◌+◌, ◌<◌, ◌≤◌, true, ◌&&◌, ltb, leb, List, [], ◌∷◌, ◌++◌, length, get_or, take, sym, refl, subst}
 use Rattle.std.proofs.lemmas.List.{take_more}
 use Rattle.std.proofs.lemmas.Bool.{and_from, and_parts, leb-true, le-leb, lt-ltb, ltb-true}
-use Rattle.frame.specs.Good.{all_bytes, good}
+use Rattle.frame.specs.Good.{all_bytes, good, good_frame}
 
 -- ---- a good frame
 
@@ -12,15 +12,15 @@ pub record GoodParts (id : ℕ) (xs : List ℕ) : Type 0 where
   pub few : length xs ≤ 8
   pub bytes : all_bytes xs ≡ true
 
-pub good_parts : (id : ℕ) (xs : List ℕ) → good id xs ≡ true → GoodParts id xs
+pub good_parts : (id : ℕ) (xs : List ℕ) → good_frame id xs ≡ true → GoodParts id xs
 good_parts id xs e =
-    let (first, rest) = and_parts (ltb id 2048) (leb (length xs) 8 && all_bytes xs) e in
-    let (few, bytes) = and_parts (leb (length xs) 8) (all_bytes xs) rest in
+    let (is_good, bytes) = and_parts (good id xs) (all_bytes xs) e in
+    let (first, few) = and_parts (ltb id 2048) (leb (length xs) 8) is_good in
     record { small = ltb-true id 2048 first; few = leb-true (length xs) 8 few; bytes = bytes }
 
-pub good_from : (id : ℕ) (xs : List ℕ) → id < 2048 → length xs ≤ 8 → all_bytes xs ≡ true → good id xs ≡ true
+pub good_from : (id : ℕ) (xs : List ℕ) → id < 2048 → length xs ≤ 8 → all_bytes xs ≡ true → good_frame id xs ≡ true
 good_from id xs small few bytes =
-    and_from (ltb id 2048) _ (lt-ltb id 2048 small) (and_from (leb (length xs) 8) (all_bytes xs) (le-leb (length xs) 8 few) bytes)
+    and_from (good id xs) (all_bytes xs) (and_from (ltb id 2048) (leb (length xs) 8) (lt-ltb id 2048 small) (le-leb (length xs) 8 few)) bytes
 
 -- ---- bytes
 

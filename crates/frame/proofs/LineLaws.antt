@@ -1,8 +1,8 @@
 -- What holds of lines: how long they are, that five like bits before the end are ended by a stuff bit, and that the fields stand
 -- in them. Rests on the laws of stuff bits. Assumes nothing else.
-use Rattle.std.proofs.Common.{◌≡◌, ℕ, ◌+◌, ◌-◌, ◌*◌, ◌<◌, ◌≤◌, Bool, true, false, not, leb, List, [], ◌∷◌, ◌++◌, length, get_or, take, drop, replicate, sym, refl, ap, ◌∙◌, subst, arith}
+use Rattle.std.proofs.Common.{◌≡◌, ℕ, ◌+◌, ◌-◌, ◌*◌, ◌<◌, ◌≤◌, Bool, true, false, not, ltb, leb, List, [], ◌∷◌, ◌++◌, length, get_or, take, drop, replicate, sym, refl, ap, ◌∙◌, subst, arith}
 use Rattle.std.proofs.lemmas.List.{append_assoc, append-nil, length-append, take_at, take-append-drop, length-drop}
-use Rattle.std.proofs.lemmas.Bool.{leb-true, leb-false, true≢false}
+use Rattle.std.proofs.lemmas.Bool.{and_parts, leb-true, leb-false, true≢false}
 use Rattle.bits.proofs.BitLaws.{length-bits_of}
 use Rattle.bits.specs.Bits.{bits_of, bytes_bits}
 use Rattle.bits.specs.Crc.{crc, covered}
@@ -10,7 +10,6 @@ use Rattle.frame.specs.Fields.{fields}
 use Rattle.frame.specs.Laws.{FiveThenOther, NoSix, LengthOfLine, LongestLine, Unstuffed, FieldsInLine}
 use Rattle.frame.specs.Line.{line, start, end}
 use Rattle.frame.specs.Stuffing.{stuff, unstuff}
-use Rattle.frame.proofs.GoodLaws.{good_parts}
 use Rattle.frame.proofs.StuffLaws.{Runs, length-stuff_most, length-stuff_least, stuff_runs, five_then_other, run_like, unstuff-stuff}
 
 -- ---- how long a line is
@@ -45,7 +44,8 @@ length_of_line id xs =
 
 pub longest_line : LongestLine
 longest_line id xs e =
-    omega (arith, (good_parts id xs e).few, (length_of_line id xs).most)
+    let few : length xs ≤ 8 = leb-true (length xs) 8 (and_parts (ltb id 2048) (leb (length xs) 8) e).1 in
+    omega (arith, few, (length_of_line id xs).most)
 
 -- ---- like bits
 

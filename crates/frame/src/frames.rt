@@ -1,11 +1,10 @@
 // Frames made, asked and compared.
-ghost use Rattle.std.specs.Prelude.{◌≡◌, if◌then◌else◌, Some, None, Decides};
+ghost use Rattle.std.specs.Prelude.{◌≡◌, ◌↔◌, if◌then◌else◌, Some, None, IsTrue};
 ghost use Rattle.std.specs.Option.{option_map};
-ghost use Rattle.frame.specs.Contents.{contents, frame_data};
+ghost use Rattle.std.specs.Cmp.{and_equiv, and_per, nat_eq_equiv, on_equiv, on_per, partial_equiv_from_equiv};
+ghost use Rattle.std.specs.Cmp.Lexicographic.{lists_equiv};
+ghost use Rattle.frame.specs.Contents.{contents, frame_data, frame_eq};
 ghost use Rattle.frame.specs.Good.{good};
-ghost use Rattle.std.specs.Cmp.Rules.{comparing};
-ghost use Rattle.std.proofs.Common.{rules, arith};
-ghost use Rattle.std.specs.Cmp as Keys;
 
 use crate::frame::{Frame, MOST_BYTES};
 use std::fmt;
@@ -48,17 +47,20 @@ impl Frame {
 
 // Frames are alike if their identifiers and their bytes are.
 impl PartialEq for Frame {
-    ghost equals = { λ a b r. Decides r (contents a ≡ contents b) };
+    ghost eq = { frame_eq };
 
-    ghost laws = { Keys.partial_equiv_from_equiv (first_of (Prim.search (comparing, rules), Prim.grind (arith, Self.row.coded.inj))) };
+    ghost laws = { and_per (on_per frame_data (partial_equiv_from_equiv (lists_equiv nat_eq_equiv))) (on_per (λ f. f.id) (partial_equiv_from_equiv nat_eq_equiv)) };
 
-    fn eq(&self, other: &Frame) -> bool {
-        other.id == self.id && self.data() == other.data()
+    fn eq(&self, other: &Frame) -> bool
+        ensures computed { result ≡ frame_eq self.now other.now }
+        ensures decided { IsTrue result ↔ (contents self.now ≡ contents other.now) }
+    {
+        self.data() == other.data() && self.id == other.id
     }
 }
 
 impl Eq for Frame {
-    ghost laws = { first_of (Prim.search (comparing, rules), Prim.grind (arith, Self.row.coded.inj)) };
+    ghost laws = { and_equiv (on_equiv frame_data (lists_equiv nat_eq_equiv)) (on_equiv (λ f. f.id) nat_eq_equiv) };
 }
 
 impl fmt::Debug for Frame {

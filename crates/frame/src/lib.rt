@@ -9,11 +9,10 @@ mod line;
 mod lines;
 mod maker;
 mod shown;
-mod stuffing;
 pub mod widths;
 
 pub use done::Done;
 pub use entries::make_line;
 pub use frame::{Frame, MOST_BYTES};
-pub use line::{END, LONGEST_LINE, Line, START};
-pub use stuffing::{is_due, like_bits};
+pub use line::{LONGEST_LINE, Line};
+pub use maker::{END, START, is_due, like_bits};

@@ -2,12 +2,6 @@
 // where it is declared: lines.rt has what it does, and maker.rt how it is made.
 ghost use Rattle.std.specs.Prelude.{◌≤◌};
 
-// The bit that a line begins with, a low one.
-pub const START: bool = false;
-
-// How many high bits a line ends with.
-pub const END: usize = 7;
-
 // No frame's line is longer.
 pub const LONGEST_LINE: usize = 125;
 

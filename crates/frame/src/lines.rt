@@ -1,9 +1,8 @@
 // Lines asked and compared.
-ghost use Rattle.std.specs.Prelude.{◌≡◌, Decides};
-ghost use Rattle.frame.specs.Contents.{line_bits};
-ghost use Rattle.std.specs.Cmp.Rules.{comparing};
-ghost use Rattle.std.proofs.Common.{rules, arith};
-ghost use Rattle.std.specs.Cmp as Keys;
+ghost use Rattle.std.specs.Prelude.{◌≡◌, ◌↔◌, IsTrue};
+ghost use Rattle.std.specs.Cmp.{bool_eq_equiv, on_equiv, on_per, partial_equiv_from_equiv};
+ghost use Rattle.std.specs.Cmp.Lexicographic.{lists_equiv};
+ghost use Rattle.frame.specs.Contents.{line_bits, line_eq};
 
 use crate::line::Line;
 
@@ -18,15 +17,18 @@ impl Line {
 
 // Lines are alike if their bits are.
 impl PartialEq for Line {
-    ghost equals = { λ a b r. Decides r (line_bits a ≡ line_bits b) };
+    ghost eq = { line_eq };
 
-    ghost laws = { Keys.partial_equiv_from_equiv (first_of (Prim.search (comparing, rules), Prim.grind (arith, Self.row.coded.inj))) };
+    ghost laws = { on_per line_bits (partial_equiv_from_equiv (lists_equiv bool_eq_equiv)) };
 
-    fn eq(&self, other: &Line) -> bool {
+    fn eq(&self, other: &Line) -> bool
+        ensures computed { result ≡ line_eq self.now other.now }
+        ensures decided { IsTrue result ↔ (line_bits self.now ≡ line_bits other.now) }
+    {
         self.bits() == other.bits()
     }
 }
 
 impl Eq for Line {
-    ghost laws = { first_of (Prim.search (comparing, rules), Prim.grind (arith, Self.row.coded.inj)) };
+    ghost laws = { on_equiv line_bits (lists_equiv bool_eq_equiv) };
 }

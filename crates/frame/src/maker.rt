@@ -1,15 +1,24 @@
 // The maker of a line. A maker of rows puts the fields' bits, and a maker of stuff bits puts one where one is due; each hands on
 // to the other. What they share stands behind one reference, so that a compiler can make one loop of the two.
-ghost use Rattle.std.specs.Prelude.{◌≡◌, ◌+◌, ◌≤◌, not, length, take};
+ghost use Rattle.std.specs.Prelude.{◌≡◌, ◌+◌, ◌≤◌, not, length, min, take};
 ghost use Rattle.frame.specs.Contents.{frame_data, line_bits};
 ghost use Rattle.frame.specs.Line.{start, end, line};
 ghost use Rattle.frame.specs.Making.{Fits, Fresh, Puts, Ready, rest, rest_due, with_bit};
+ghost use Rattle.frame.specs.Stuffing.{due, run};
 
 use crate::fields::fields_of;
 use crate::frame::Frame;
-use crate::line::{END, LONGEST_LINE, Line, START};
-use crate::stuffing::{is_due, like_bits};
+use crate::line::{LONGEST_LINE, Line};
 use bits::bit_at;
+
+// The bit that a line begins with, a low one.
+pub const START: bool = false;
+
+// Behind so many like bits one of the other kind is put in.
+const LIKE_BITS: u8 = 5;
+
+// How many high bits a line ends with.
+pub const END: usize = 7;
 
 // A line that is being made.
 #[derive(Drop)]
@@ -117,5 +126,25 @@ impl Maker {
             bits,
             len: self.at + END,
         }
+    }
+}
+
+// Whether a stuff bit comes next, where `run` like bits stand at the end.
+pub fn is_due(run: u8) -> bool
+    ensures { result ≡ due run }
+{
+    run == LIKE_BITS
+}
+
+// How many like bits stand at a row's end with `bit`, where `count` bits like `last` stood there before it. It counts no further
+// than a byte does; in a line no more than five stand together.
+pub fn like_bits(last: bool, count: u8, bit: bool) -> u8
+    ensures counted { count ≤ 5 → result ≡ run last count bit }
+    ensures capped { result ≡ min (run last count bit) 255 }
+{
+    if last == bit {
+        count.saturating_add(1)
+    } else {
+        1
     }
 }

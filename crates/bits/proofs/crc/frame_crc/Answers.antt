@@ -25,9 +25,9 @@ header id n bs =
 pub returns : goal.returns
 unfolding covered
 returns c =
-    c.push-bytes.ensures
-    ∙ ap (λ x. crc_from x bytes) c.push-byte-2.ensures
-    ∙ ap (λ x. crc_from (crc_from x second) bytes) c.push-byte.ensures
+    c.push_bytes.ensures
+    ∙ ap (λ x. crc_from x bytes) c.push_byte-2.ensures
+    ∙ ap (λ x. crc_from (crc_from x second) bytes) c.push_byte.ensures
     ∙ ap (λ x. crc_from (crc_from (crc_from x first) second) bytes) c.new.ensures
     ∙ sym (crc_from-++ 0 first (second ++ bytes) ∙ crc_from-++ (crc_from 0 first) second bytes)
     ∙ ap crc (header c.args.id (length c.args.data.now) bytes)

@@ -6,8 +6,8 @@ use Rattle.bits.proofs.BitLaws.{bit_at_past}
 use Rattle.bits.specs.Bits.{bit_at}
 use Rattle.bits.proofs.numbers.bit_at.Goals as goal
 
-pub nonzero-div-result : goal.nonzero-div-result
-nonzero-div-result c = rw (one_shl c.args.place 128 c.if-place-lt-BITS.true) (pow_pos c.args.place)
+pub nonzero_div-result : goal.nonzero_div-result
+nonzero_div-result c = rw (one_shl c.args.place 128 c.if-place-lt-BITS.true) (pow_pos c.args.place)
 
 pub returns-then-place-lt-BITS : goal.returns-then-place-lt-BITS
 unfolding bit_at

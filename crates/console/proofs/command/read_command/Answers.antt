@@ -2,12 +2,12 @@
 use Rattle.std.proofs.Common.{◌≡◌, ◌∷◌, codes, refl, ap, ◌∙◌, true-eqb, false-eqb}
 use Rattle.std.proofs.lemmas.Slice.Eq.{slice_eq-Decides}
 use Rattle.std.proofs.lemmas.Bool.{both_ways}
-use Rattle.console.proofs.ReadingLaws.{reading_none, reading_some, command_letter, command_line, command_read, command_other}
+use Rattle.console.proofs.ReadingLaws.{reading_none, reading_some, command_letter, command_line, command_other}
 use Rattle.console.specs.Commands.{capped_reading}
 use Rattle.console.specs.Reading.{reading, command_words}
 use Rattle.console.specs.Words.{words_behind}
 use Rattle.console.proofs.command.read_command.Goals as goal
-use Rattle.console.proofs.command.read_command.Goals.{After-cut-word-cut, After-eq-else-eq, After-eq-else-eq-2}
+use Rattle.console.proofs.command.read_command.Goals.{After-cut-word-cut, After-eq-else-eq}
 use Rattle.std.proofs.lemmas.Bool.Decides.{Decides-eqb}
 
 -- the first word says which command it is
@@ -31,18 +31,8 @@ returns-then-eq-2 c =
     let is = (slice_eq-Decides Decides-eqb _ (codes "line") _ c.eq-else-eq.ensures).0 c.if-eq-2.true in
     rw (by_words (goal.at.returns-then-eq-2 c).After-cut-word-cut ∙ command_line _ _ (not_letter (goal.at.returns-then-eq-2 c).After-eq-else-eq) is) c.read-line.ensures
 
--- nor is it `line`
-not_line : (c : After-eq-else-eq-2) → c.cut-word-cut.result.word.now ≡ codes "line" → ⊥
-not_line c is = both_ways _ c.if-eq-2.false ((slice_eq-Decides Decides-eqb _ (codes "line") _ c.eq-else-eq.ensures).1 is)
-
-pub returns-then-eq-3 : goal.returns-then-eq-3
-returns-then-eq-3 c =
-    let is = (slice_eq-Decides Decides-eqb _ (codes "read") _ c.eq-else-eq-2.ensures).0 c.if-eq-3.true in
-    let read = command_read _ _ (not_letter (goal.at.returns-then-eq-3 c).After-eq-else-eq) (not_line (goal.at.returns-then-eq-3 c).After-eq-else-eq-2) is in
-    rw (by_words (goal.at.returns-then-eq-3 c).After-cut-word-cut ∙ read) c.read-digits.ensures
-
-pub returns-else-eq-3 : goal.returns-else-eq-3
-returns-else-eq-3 c =
-    let decides = slice_eq-Decides Decides-eqb _ (codes "read") _ c.eq-else-eq-2.ensures in
-    let other = command_other _ _ (not_letter (goal.at.returns-else-eq-3 c).After-eq-else-eq) (not_line (goal.at.returns-else-eq-3 c).After-eq-else-eq-2) (λ is. both_ways _ c.if-eq-3.false (decides.1 is)) in
-    ap capped_reading (by_words (goal.at.returns-else-eq-3 c).After-cut-word-cut ∙ other)
+pub returns-else-eq-2 : goal.returns-else-eq-2
+returns-else-eq-2 c =
+    let decides = slice_eq-Decides Decides-eqb _ (codes "line") _ c.eq-else-eq.ensures in
+    let other = command_other _ _ (not_letter (goal.at.returns-else-eq-2 c).After-eq-else-eq) (λ is. both_ways _ c.if-eq-2.false (decides.1 is)) in
+    ap capped_reading (by_words (goal.at.returns-else-eq-2 c).After-cut-word-cut ∙ other)

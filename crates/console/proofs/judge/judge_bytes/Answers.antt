@@ -30,7 +30,7 @@ made c =
     let all : length bytes ≡ c.loop-i.i = omega arith in
     let same : take (length bytes - 0) c.loop-i.data ≡ bytes =
     ap (λ n. take n c.loop-i.data) (sub-zero (length bytes) ∙ all) ∙ c.loop-i.invariant.2 ∙ take_all c.loop-i.i bytes (omega arith) in
-    frame_made c.args.name bytes c.new.result (omega arith) (omega arith) (good_all _ _ c.loop-i.invariant.0 (omega arith)) (rw same at c.new.ensures)
+    frame_made c.args.name bytes c.new.result (omega arith) (omega arith) (rw same at c.new.ensures)
 
 pub unwrap-requires : goal.unwrap-requires
 unwrap-requires c = rw (made (goal.at.unwrap-requires c).After-new).1

@@ -16,13 +16,13 @@ loop-byte-init c =
     subst (λ n. Joined c.args.frame.now.id c.data-data.result.now 0 (n * 16 + length c.data-data.result.now)) (sym id)
     (joined_none c.args.frame.now.id c.data-data.result.now c.args.frame.now.good.0 few)
 
-pub overflow-mul-number-in-loop-byte : goal.overflow-mul-number-in-loop-byte
-overflow-mul-number-in-loop-byte c =
+pub overflow_mul-number-in-loop-byte : goal.overflow_mul-number-in-loop-byte
+overflow_mul-number-in-loop-byte c =
     let small = joined_small c.args.frame.now c.data-data.result.now c.loop-byte.byte-index c.loop-byte.number c.data-data.ensures c.loop-byte.auto.byte-index-end c.loop-byte.invariant in
     omega (arith, small)
 
-pub overflow-add-number-in-loop-byte : goal.overflow-add-number-in-loop-byte
-overflow-add-number-in-loop-byte c =
+pub overflow_add-number-in-loop-byte : goal.overflow_add-number-in-loop-byte
+overflow_add-number-in-loop-byte c =
     let small = joined_small c.args.frame.now c.data-data.result.now c.loop-byte.byte-index c.loop-byte.number c.data-data.ensures c.loop-byte.auto.byte-index-end c.loop-byte.invariant in
     let byte : get_or c.data-data.result.now c.loop-byte.byte-index 0 < 256 = search rules in
     omega (arith, c.from-in-loop-byte.ensures, byte, small)
@@ -35,20 +35,20 @@ loop-byte-preserved c =
 
 -- ---- the check, behind all bytes
 
-pub overflow-mul-result : goal.overflow-mul-result
-overflow-mul-result c =
+pub overflow_mul-result : goal.overflow_mul-result
+overflow_mul-result c =
     let small = joined_small c.args.frame.now c.data-data.result.now c.loop-byte.byte-index c.loop-byte.number c.data-data.ensures c.loop-byte.auto.byte-index-end c.loop-byte.invariant in
     omega (arith, small)
 
 -- the check as it is joined
 check : (c : goal.After-from-2) → c.from-2.result ≡ crc (covered c.args.frame.now.id (frame_data c.args.frame.now))
-check c = c.from-2.ensures ∙ c.check-of.ensures
+check c = c.from-2.ensures ∙ c.check_of.ensures
 
 narrow : (c : goal.After-from-2) → c.from-2.result < 2 ^ 15
 narrow c = subst (λ n. n < 2 ^ 15) (sym (check c)) (crc_from_lt 0 (covered c.args.frame.now.id (frame_data c.args.frame.now)) (lit< tt))
 
-pub overflow-add-result : goal.overflow-add-result
-overflow-add-result c =
+pub overflow_add-result : goal.overflow_add-result
+overflow_add-result c =
     let small = joined_small c.args.frame.now c.data-data.result.now c.loop-byte.byte-index c.loop-byte.number c.data-data.ensures c.loop-byte.auto.byte-index-end c.loop-byte.invariant in
     omega (arith, narrow c, small)
 

@@ -9,16 +9,16 @@ use Rattle.bits.specs.Crc.{doubled, crc_step}
 use Rattle.bits.proofs.crc.Crc.push_bit.Goals as goal
 use Rattle.bits.proofs.crc.Crc.push_bit.Goals.{then-bit-highest, else-bit-highest}
 
-pub invariant-of-result : goal.invariant-of-result
+pub invariant_of-result : goal.invariant_of-result
 unfolding doubled
-invariant-of-result c =
-    let v = c.args.self.value in (
-      elim c.if-bit-highest.branch [
+invariant_of-result c =
+    let v = c.args.self.value in
+    record {
+      narrow = elim c.if-bit-highest.branch [
         | then-bit-highest w ↦ rw w.value-is (xor_lt 15 (doubled v) _ (doubled_lt v) (lit< tt))
         | else-bit-highest w ↦ rw w.value-is (doubled_lt v)
-      ],
-      tt,
-    )
+      ];
+    }
 
 pub returns : goal.returns
 unfolding crc_step doubled

@@ -5,13 +5,13 @@ use Rattle.bits.proofs.CrcLaws.{crc_from_byte, crc_from_lt}
 use Rattle.bits.specs.Crc.{byte_step}
 use Rattle.bits.proofs.crc.Crc.push_byte.Goals as goal
 
-pub invariant-of-result : goal.invariant-of-result
-invariant-of-result c =
-    let narrow : c.crc-of-byte.result < 2 ^ 15 = rw c.crc-of-byte.ensures (crc_from_lt 0 _ (lit< tt)) in
-    (xor_lt 15 _ _ (omega arith) narrow, tt)
+pub invariant_of-result : goal.invariant_of-result
+invariant_of-result c =
+    let narrow : c.crc_of_byte.result < 2 ^ 15 = rw c.crc_of_byte.ensures (crc_from_lt 0 _ (lit< tt)) in
+    record { narrow = xor_lt 15 _ _ (omega arith) narrow }
 
 pub returns : goal.returns
 unfolding byte_step
 returns c =
     let moved : c.args.self.value % 128 * 256 ≡ c.args.self.value * 2 ^ 8 % 2 ^ 15 = omega arith in
-    ap₂ bit_xor moved c.crc-of-byte.ensures ∙ sym (crc_from_byte c.args.self.value c.args.byte c.args.self.narrow)
+    ap₂ bit_xor moved c.crc_of_byte.ensures ∙ sym (crc_from_byte c.args.self.value c.args.byte c.args.self.narrow)

@@ -8,7 +8,7 @@ use Rattle.bits.proofs.crc.Crc.push_bytes.Goals as goal
 
 pub loop-byte-preserved : goal.loop-byte-preserved
 loop-byte-preserved c =
-    ap (λ x. crc_from x (bytes_bits (drop (c.loop-byte.byte-index + 1) c.args.bytes.now))) c.push-byte-crc.ensures
+    ap (λ x. crc_from x (bytes_bits (drop (c.loop-byte.byte-index + 1) c.args.bytes.now))) c.push_byte-crc.ensures
     ∙ sym (crc_from_bytes_more c.loop-byte.crc.value c.args.bytes.now c.loop-byte.byte-index c.loop-byte-test.true)
     ∙ c.loop-byte.invariant
 

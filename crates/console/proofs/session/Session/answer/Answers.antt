@@ -1,5 +1,5 @@
 -- What becomes of each sort of line.
-use Rattle.console.proofs.SessionLaws.{after_blank, after_letter, after_line, after_read, after_unreadable}
+use Rattle.console.proofs.SessionLaws.{after_blank, after_letter, after_line, after_unreadable}
 use Rattle.console.proofs.session.Session.answer.Goals as goal
 
 pub returns-in-Blank : goal.returns-in-Blank
@@ -15,11 +15,6 @@ returns-in-Letter c =
 pub returns-in-Line : goal.returns-in-Line
 returns-in-Line c =
     let so = after_line _ _ _ _ c.in-Line.ensures c.line.ensures in
-    record { answer = so.answered; kept = so.kept }
-
-pub returns-in-Read : goal.returns-in-Read
-returns-in-Read c =
-    let so = after_read _ _ _ _ _ c.in-Read.ensures c.answer-bits.ensures in
     record { answer = so.answered; kept = so.kept }
 
 pub returns-in-Unreadable : goal.returns-in-Unreadable

@@ -1,9 +1,9 @@
 -- A frame is made where both tests are passed, and holds what was copied.
 use Rattle.std.proofs.Common.{◌≡◌, ◌<◌, true, [], ◌∷◌, ◌++◌, length, get_or, take, Some, sym, refl, ap, ◌∙◌, subst, arith, length-set, rules}
 use Rattle.std.proofs.lemmas.List.{take_all, take_more, take_more_set}
-use Rattle.std.proofs.lemmas.Bool.{cond-true}
+use Rattle.std.proofs.lemmas.Bool.{and_from, cond-true, lt-ltb, le-leb}
 use Rattle.frame.specs.Good.{all_bytes}
-use Rattle.frame.proofs.GoodLaws.{bytes_more, good_from}
+use Rattle.frame.proofs.GoodLaws.{bytes_more}
 use Rattle.frame.proofs.frame.Frame.new.Goals as goal
 
 pub loop-place-init : goal.loop-place-init
@@ -30,5 +30,4 @@ returns c =
     let all : length bytes ≡ i = omega arith in
     let whole : take i bytes ≡ bytes = take_all i bytes (omega arith) in
     let copied : take (length bytes) c.loop-place.room ≡ bytes = ap (λ n. take n c.loop-place.room) all ∙ c.loop-place.invariant.1 ∙ whole in
-    let small : all_bytes bytes ≡ true = subst (λ ys. all_bytes ys ≡ true) whole c.loop-place.invariant.2 in
-    ap (λ ys. Some (c.args.id, ys)) copied ∙ sym (cond-true _ _ _ (good_from c.args.id bytes (omega arith) (omega arith) small))
+    ap (λ ys. Some (c.args.id, ys)) copied ∙ sym (cond-true _ _ _ (and_from _ _ (lt-ltb c.args.id 2048 (omega arith)) (le-leb (length bytes) 8 (omega arith))))

@@ -1,11 +1,11 @@
 -- Slices are compared bit by bit, and these are the lines' own.
-use Rattle.std.proofs.Common.{◌≡◌, Decides, subst}
-use Rattle.std.proofs.lemmas.Slice.Eq.{slice_eq-Decides}
+use Rattle.std.proofs.Common.{◌≡◌, subst}
+use Rattle.std.specs.Cmp.{booleans_Decides}
+use Rattle.std.specs.Cmp.Lexicographic.{pointwise_decides}
 use Rattle.frame.specs.Contents.{line_bits}
 use Rattle.frame.proofs.lines.LinePartialEq.eq.Goals as goal
-use Rattle.std.proofs.lemmas.Bool.Decides.{Decides-eqb}
 
-pub returns : goal.returns
-returns c =
-    subst (λ a. Decides c.eq.result (a ≡ line_bits c.args.other.now)) c.bits.ensures
-    (subst (λ b. Decides c.eq.result (c.bits.result.now ≡ b)) c.bits-2.ensures (slice_eq-Decides Decides-eqb _ _ _ c.eq.ensures))
+pub returns-clause-decided : goal.returns-clause-decided
+returns-clause-decided c =
+    let decided = pointwise_decides booleans_Decides (line_bits c.args.self.now) (line_bits c.args.other.now) in
+    rw (c.eq.ensures, c.bits.ensures, c.bits-2.ensures) decided

@@ -2,8 +2,8 @@
 use Rattle.std.proofs.Common.{◌+◌, ◌*◌}
 use Rattle.frame.proofs.maker.Maker.+put_row_put_stuff_bit.Given as goal
 
-abbrev pub decreases-put-row : goal.decreases-put-row
-decreases-put-row l = 2 * l.self.now.left
+abbrev pub decreases-put_row : goal.decreases-put_row
+decreases-put_row l = 2 * l.self.now.left
 
-abbrev pub decreases-put-stuff-bit : goal.decreases-put-stuff-bit
-decreases-put-stuff-bit l = 2 * l.self.now.left + 1
+abbrev pub decreases-put_stuff_bit : goal.decreases-put_stuff_bit
+decreases-put_stuff_bit l = 2 * l.self.now.left + 1

@@ -15,10 +15,10 @@ loop-high-preserved g c plain =
     let items = c.bits-high-items.result.now in
     let i = c.loop-high.high-index in
     let before = c.loop-high.invariant plain in
-    let now = c.in-ok-write-char.ensures.writes before.plain refl in
-    let written = ap (λ d. digits (take i items) ++ d) c.digit-of.ensures ∙ sym (map_more digit items i false c.loop-high-test.true) in
-    has_written_of_eq g.W.Write.write_str_gives c.args.f.now _ (digits (take (i + 1) items)) c.write-char.new.self written
-    (has_written_append g.W.Write.write_str_gives c.args.f.now (digits (take i items)) c.loop-high.f (encode c.digit-of.result) c.write-char.new.self before now)
+    let now = c.in_ok-write_char.ensures.writes before.plain refl in
+    let written = ap (λ d. digits (take i items) ++ d) c.digit_of.ensures ∙ sym (map_more digit items i false c.loop-high-test.true) in
+    has_written_of_eq g.W.Write.write_str_gives c.args.f.now _ (digits (take (i + 1) items)) c.write_char.new.self written
+    (has_written_append g.W.Write.write_str_gives c.args.f.now (digits (take i items)) c.loop-high.f (encode c.digit_of.result) c.write_char.new.self before now)
 
 pub returns-clause-writes : goal.returns-clause-writes
 returns-clause-writes g c plain ok =

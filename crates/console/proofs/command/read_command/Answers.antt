@@ -7,32 +7,32 @@ use Rattle.console.specs.Commands.{capped_reading}
 use Rattle.console.specs.Reading.{reading, command_words}
 use Rattle.console.specs.Words.{words_behind}
 use Rattle.console.proofs.command.read_command.Goals as goal
-use Rattle.console.proofs.command.read_command.Goals.{After-cut-word-cut, After-eq-else-eq}
+use Rattle.console.proofs.command.read_command.Goals.{After-cut_word-cut, After-eq-else-eq}
 use Rattle.std.proofs.lemmas.Bool.Decides.{Decides-eqb}
 
 -- the first word says which command it is
-by_words : (c : After-cut-word-cut) → reading c.args.text.now ≡ command_words (c.cut-word-cut.result.word.now ∷ words_behind c.cut-word-cut.result.behind)
-by_words c = reading_some _ (false-eqb _ 0 c.if-is-empty.ensures) ∙ ap command_words c.cut-word-cut.ensures.answer
+by_words : (c : After-cut_word-cut) → reading c.args.text.now ≡ command_words (c.cut_word-cut.result.word.now ∷ words_behind c.cut_word-cut.result.behind)
+by_words c = reading_some _ (false-eqb _ 0 c.if-is_empty.ensures) ∙ ap command_words c.cut_word-cut.ensures.answer
 
-pub returns-then-is-empty : goal.returns-then-is-empty
-returns-then-is-empty c = rw (reading_none _ (true-eqb _ 0 c.if-is-empty.ensures)) refl
+pub returns-then-is_empty : goal.returns-then-is_empty
+returns-then-is_empty c = rw (reading_none _ (true-eqb _ 0 c.if-is_empty.ensures)) refl
 
 pub returns-then-eq : goal.returns-then-eq
 returns-then-eq c =
     let is = (slice_eq-Decides Decides-eqb _ (codes "letter") _ c.eq.ensures).0 c.if-eq.true in
-    rw (by_words (goal.at.returns-then-eq c).After-cut-word-cut ∙ command_letter _ _ is) c.read-letter.ensures
+    rw (by_words (goal.at.returns-then-eq c).After-cut_word-cut ∙ command_letter _ _ is) c.read_letter.ensures
 
 -- it isn't `letter`
-not_letter : (c : After-eq-else-eq) → c.cut-word-cut.result.word.now ≡ codes "letter" → ⊥
+not_letter : (c : After-eq-else-eq) → c.cut_word-cut.result.word.now ≡ codes "letter" → ⊥
 not_letter c is = both_ways _ c.if-eq.false ((slice_eq-Decides Decides-eqb _ (codes "letter") _ c.eq.ensures).1 is)
 
 pub returns-then-eq-2 : goal.returns-then-eq-2
 returns-then-eq-2 c =
     let is = (slice_eq-Decides Decides-eqb _ (codes "line") _ c.eq-else-eq.ensures).0 c.if-eq-2.true in
-    rw (by_words (goal.at.returns-then-eq-2 c).After-cut-word-cut ∙ command_line _ _ (not_letter (goal.at.returns-then-eq-2 c).After-eq-else-eq) is) c.read-line.ensures
+    rw (by_words (goal.at.returns-then-eq-2 c).After-cut_word-cut ∙ command_line _ _ (not_letter (goal.at.returns-then-eq-2 c).After-eq-else-eq) is) c.read_line.ensures
 
 pub returns-else-eq-2 : goal.returns-else-eq-2
 returns-else-eq-2 c =
     let decides = slice_eq-Decides Decides-eqb _ (codes "line") _ c.eq-else-eq.ensures in
     let other = command_other _ _ (not_letter (goal.at.returns-else-eq-2 c).After-eq-else-eq) (λ is. both_ways _ c.if-eq-2.false (decides.1 is)) in
-    ap capped_reading (by_words (goal.at.returns-else-eq-2 c).After-cut-word-cut ∙ other)
+    ap capped_reading (by_words (goal.at.returns-else-eq-2 c).After-cut_word-cut ∙ other)

@@ -7,23 +7,23 @@ use Rattle.console.specs.Numeral.{capped}
 use Rattle.console.specs.Reading.{letter_words, letter_of, name_from, before_colon, numbers}
 use Rattle.console.specs.Words.{words_behind}
 use Rattle.console.proofs.command.read_letter.Goals as goal
-use Rattle.console.proofs.command.read_letter.Goals.{After-cut-word-cut}
+use Rattle.console.proofs.command.read_letter.Goals.{After-cut_word-cut}
 
 -- the first word is the name, and the others are the bytes
-parts : (c : After-cut-word-cut) → capped_reading (letter_words (words_behind c.args.text)) ≡ letter_of (option_map capped (name_from (before_colon c.cut-word-cut.result.word.now))) (option_map (map capped) (numbers (words_behind c.cut-word-cut.result.behind)))
-parts c = letter_capped _ _ _ (ap words_behind c.in-Some.is ∙ c.cut-word-cut.ensures.answer)
+parts : (c : After-cut_word-cut) → capped_reading (letter_words (words_behind c.args.text)) ≡ letter_of (option_map capped (name_from (before_colon c.cut_word-cut.result.word.now))) (option_map (map capped) (numbers (words_behind c.cut_word-cut.result.behind)))
+parts c = letter_capped _ _ _ (ap words_behind c.in-Some.is ∙ c.cut_word-cut.ensures.answer)
 
-pub returns-in-default : goal.returns-in-default
+pub returns-in_default : goal.returns-in_default
 unfolding letter_words
-returns-in-default c = rw (ap words_behind c.in-default.is) refl
+returns-in_default c = rw (ap words_behind c.in_default.is) refl
 
-pub returns-in-default-read-name : goal.returns-in-default-read-name
-returns-in-default-read-name c = says_no_name _ _ _ (parts (goal.at.returns-in-default-read-name c).After-cut-word-cut) c.in-default-read-name.ensures
+pub returns-in_default-read_name : goal.returns-in_default-read_name
+returns-in_default-read_name c = says_no_name _ _ _ (parts (goal.at.returns-in_default-read_name c).After-cut_word-cut) c.in_default-read_name.ensures
 
-pub returns-in-Some-read-numbers : goal.returns-in-Some-read-numbers
-returns-in-Some-read-numbers c =
-    says_letter _ _ _ _ _ (parts (goal.at.returns-in-Some-read-numbers c).After-cut-word-cut) c.in-Some-read-name.ensures c.in-Some-read-numbers.ensures
+pub returns-in-Some-read_numbers : goal.returns-in-Some-read_numbers
+returns-in-Some-read_numbers c =
+    says_letter _ _ _ _ _ (parts (goal.at.returns-in-Some-read_numbers c).After-cut_word-cut) c.in-Some-read_name.ensures c.in-Some-read_numbers.ensures
 
 pub returns-in-None : goal.returns-in-None
 returns-in-None c =
-    says_no_bytes _ _ _ _ (parts (goal.at.returns-in-None c).After-cut-word-cut) c.in-Some-read-name.ensures c.in-None.ensures
+    says_no_bytes _ _ _ _ (parts (goal.at.returns-in-None c).After-cut_word-cut) c.in-Some-read_name.ensures c.in-None.ensures

@@ -8,14 +8,14 @@ use Rattle.console.specs.Reading.{before_colon, name_from}
 use Rattle.console.proofs.command.read_name.Goals as goal
 use Rattle.std.proofs.lemmas.Bool.Decides.{Decides-eqb}
 
-pub returns-in-err-strip-suffix : goal.returns-in-err-strip-suffix
+pub returns-in_err-strip_suffix : goal.returns-in_err-strip_suffix
 unfolding name_from
-returns-in-err-strip-suffix c =
-    let none = rw c.in-err-strip-suffix.was at (strip_suffix_is Decides-eqb c.args.word.now (58 ∷ []) c.strip-suffix.result c.strip-suffix.ensures.cases) in
-    c.from-residual.ensures ∙ sym (ap (λ o. option_map capped (name_from o)) (before_colon_none _ none))
+returns-in_err-strip_suffix c =
+    let none = rw c.in_err-strip_suffix.was at (strip_suffix_is Decides-eqb c.args.word.now (58 ∷ []) c.strip_suffix.result c.strip_suffix.ensures.cases) in
+    c.from_residual.ensures ∙ sym (ap (λ o. option_map capped (name_from o)) (before_colon_none _ none))
 
 pub returns : goal.returns
 unfolding name_from
 returns c =
-    let front = rw c.in-ok-strip-suffix.was at (strip_suffix_is Decides-eqb c.args.word.now (58 ∷ []) c.strip-suffix.result c.strip-suffix.ensures.cases) in
-    c.read-number.ensures ∙ sym (ap (λ o. option_map capped (name_from o)) (ap before_colon front ∙ before_colon_push _))
+    let front = rw c.in_ok-strip_suffix.was at (strip_suffix_is Decides-eqb c.args.word.now (58 ∷ []) c.strip_suffix.result c.strip_suffix.ensures.cases) in
+    c.read_number.ensures ∙ sym (ap (λ o. option_map capped (name_from o)) (ap before_colon front ∙ before_colon_push _))

@@ -7,14 +7,14 @@ use Rattle.console.specs.Refusals.{Judged}
 use Rattle.console.specs.declared.refusal.Refusal.TheVariants.{BadLetter}
 use Rattle.console.proofs.judge.judge.Goals as goal
 
-pub returns-then-name-gt-LARGEST-NAME : goal.returns-then-name-gt-LARGEST-NAME
-returns-then-name-gt-LARGEST-NAME c = λ ns holds. bad_name _ ns (omega arith)
+pub returns-then-name-gt-LARGEST_NAME : goal.returns-then-name-gt-LARGEST_NAME
+returns-then-name-gt-LARGEST_NAME c = λ ns holds. bad_name _ ns (omega arith)
 
-pub returns-then-count-gt-MOST-BYTES : goal.returns-then-count-gt-MOST-BYTES
-returns-then-count-gt-MOST-BYTES c = λ ns holds. bad_length _ ns (omega arith) (omega arith) ∙ ap (λ n. Some (BadLetter n)) (sym holds.count)
+pub returns-then-count-gt-MOST_BYTES : goal.returns-then-count-gt-MOST_BYTES
+returns-then-count-gt-MOST_BYTES c = λ ns holds. bad_length _ ns (omega arith) (omega arith) ∙ ap (λ n. Some (BadLetter n)) (sym holds.count)
 
 pub returns : goal.returns
 returns c = λ ns holds.
     let x = c.args.bytes.now in
     let all : take (x.count - 0) x.first ≡ ns = ap (λ n. take n x.first) (sub-zero x.count) ∙ holds.first ∙ take_all 8 ns (omega arith) in
-    subst (λ bs. Judged c.args.name bs c.judge-bytes.result) all c.judge-bytes.ensures
+    subst (λ bs. Judged c.args.name bs c.judge_bytes.result) all c.judge_bytes.ensures

@@ -20,8 +20,8 @@ loop-i-preserved c = (
       take_more_set _ _ _ in-data ∙ ap (λ front. front ++ (get_or c.args.bytes.now c.loop-i.i 0 ∷ [])) c.loop-i.invariant.2 ∙ sym (take_more _ _ 0 in_bytes),
 )
 
-pub returns-then-byte-gt-LARGEST-BYTE : goal.returns-then-byte-gt-LARGEST-BYTE
-returns-then-byte-gt-LARGEST-BYTE c = bad_bytes _ _ (omega arith) (omega arith) ∙ bad_at _ _ c.loop-i.invariant.0 (omega arith) (omega arith)
+pub returns-then-byte-gt-LARGEST_BYTE : goal.returns-then-byte-gt-LARGEST_BYTE
+returns-then-byte-gt-LARGEST_BYTE c = bad_bytes _ _ (omega arith) (omega arith) ∙ bad_at _ _ c.loop-i.invariant.0 (omega arith) (omega arith)
 
 -- what was copied is the letter's bytes, so that a frame is made of them
 made : (c : After-new) → (f : Frame) × (c.new.result ≡ Some f) × (contents f ≡ (c.args.name, c.args.bytes.now))

@@ -5,19 +5,19 @@ use Rattle.console.proofs.NumeralLaws.{number_in_none, reads_none, reads_more, r
 use Rattle.console.specs.Numeral.{capped}
 use Rattle.console.proofs.numeral.read_number.Goals as goal
 
-pub returns-then-is-empty : goal.returns-then-is-empty
-returns-then-is-empty c = sym (ap (option_map capped) (number_in_none _ (true-eqb _ 0 c.if-is-empty.ensures)))
+pub returns-then-is_empty : goal.returns-then-is_empty
+returns-then-is_empty c = sym (ap (option_map capped) (number_in_none _ (true-eqb _ 0 c.if-is_empty.ensures)))
 
 pub loop-b-init : goal.loop-b-init
-loop-b-init c = reads_none _ (false-eqb _ 0 c.if-is-empty.ensures)
+loop-b-init c = reads_none _ (false-eqb _ 0 c.if-is_empty.ensures)
 
-pub returns-then-not-is-ascii-digit : goal.returns-then-not-is-ascii-digit
-returns-then-not-is-ascii-digit c = reads_other _ _ _ c.loop-b.invariant (omega arith) (sym c.if-not-is-ascii-digit.ensures.value)
+pub returns-then-not-is_ascii_digit : goal.returns-then-not-is_ascii_digit
+returns-then-not-is_ascii_digit c = reads_other _ _ _ c.loop-b.invariant (omega arith) (sym c.if-not-is_ascii_digit.ensures.value)
 
 pub loop-b-preserved : goal.loop-b-preserved
 loop-b-preserved c =
-    reads_more _ _ _ c.loop-b.invariant _ (omega arith) (sym c.if-not-is-ascii-digit.ensures.value)
-    (omega (arith, c.saturating-add-number.ensures, c.saturating-mul.ensures, c.from.ensures))
+    reads_more _ _ _ c.loop-b.invariant _ (omega arith) (sym c.if-not-is_ascii_digit.ensures.value)
+    (omega (arith, c.saturating_add-number.ensures, c.saturating_mul.ensures, c.from.ensures))
 
 pub returns : goal.returns
 returns c = reads_end _ _ _ c.loop-b.invariant (omega arith)

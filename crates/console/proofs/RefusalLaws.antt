@@ -5,7 +5,7 @@ use native.Mathlib.Numerals.{suc-eq-add-one}
 use Rattle.std.proofs.lemmas.List.{at_drop_more, at_drop_all}
 use Rattle.std.proofs.lemmas.Bool.{and_from, and_parts, cond-true, le-leb, leb-true, ltb-false, ltb-true}
 use Rattle.std.specs.Option.{option_map}
-use Rattle.std.specs.List.{AllByRecursion as All}
+use Rattle.std.specs.List.{AllByRecursion}
 use Rattle.frame.specs.Contents.{contents}
 use Rattle.frame.specs.Good.{good}
 use Rattle.frame.specs.declared.frame.Frame.{Frame}
@@ -92,11 +92,11 @@ bad_letter_none n bs none =
     let few = cond_none (ltb 8 (length bs)) (BadLetter (length bs)) (bad_byte 0 bs) name.1 in
     (ltb-false 2047 n name.0, ltb-false 8 (length bs) few.0, few.1)
 
-bytes_good : (i : ℕ) (bs : List ℕ) → bad_byte i bs ≡ None → All (λ x. x ≤ 255) bs
+bytes_good : (i : ℕ) (bs : List ℕ) → bad_byte i bs ≡ None → AllByRecursion (λ x. x ≤ 255) bs
 bytes_good i [] none = tt
 bytes_good i (x ∷ xs) none = let parts = bad_byte_none i x xs none in (parts.0, bytes_good (suc i) xs parts.1)
 
-good_bytes : (i : ℕ) (bs : List ℕ) → All (λ x. x ≤ 255) bs → bad_byte i bs ≡ None
+good_bytes : (i : ℕ) (bs : List ℕ) → AllByRecursion (λ x. x ≤ 255) bs → bad_byte i bs ≡ None
 unfolding bad_byte
 good_bytes i [] good = refl
 good_bytes i (x ∷ xs) good = bad_byte-good i x xs good.0 ∙ good_bytes (i + 1) xs good.1

@@ -4,7 +4,7 @@
 use Rattle.std.proofs.Common.{◌≡◌, ℕ, ◌+◌, Bool, true, false, cond, eqb, List, [], ◌∷◌, ◌++◌, map, length, Some, None, codes, Option, sym, refl, ap, ◌∙◌, ap₂, arith, ne_eqb, eqb-true}
 use Rattle.std.proofs.lemmas.Bool.{and_parts, leb-true}
 use Rattle.std.specs.Char.{is_ascii_digit}
-use Rattle.std.specs.List.{AllByRecursion as All}
+use Rattle.std.specs.List.{AllByRecursion}
 use Rattle.std.specs.Str.{all_ascii_digits}
 use Rattle.console.proofs.Apart.{none_some, unlike}
 use Rattle.console.proofs.ReadingLaws.{mapped_some, before_colon_push, before_colon_some, command_cases, command_letter, letter_never, line_never, reading_some}
@@ -64,7 +64,7 @@ numeral_unspaced : (w : List ℕ) → IsNumeral w → Unspaced w
 numeral_unspaced [] is = tt
 numeral_unspaced (c ∷ w) is = digits_unspaced (c ∷ w) is
 
-numerals_unspaced : (ws : List (List ℕ)) → All IsNumeral ws → All Unspaced ws
+numerals_unspaced : (ws : List (List ℕ)) → AllByRecursion IsNumeral ws → AllByRecursion Unspaced ws
 numerals_unspaced [] are = tt
 numerals_unspaced (w ∷ ws) are = (numeral_unspaced w are.0, numerals_unspaced ws are.1)
 
@@ -84,7 +84,7 @@ numeral_of_number w n e = either (numeral w) refl e
     either true is e = (is, cc)
     either false is e = none_some e
 
-numbers_of_numerals : (ws : List (List ℕ)) → All IsNumeral ws → numbers ws ≡ Some (map value ws)
+numbers_of_numerals : (ws : List (List ℕ)) → AllByRecursion IsNumeral ws → numbers ws ≡ Some (map value ws)
 unfolding numbers in_front
 numbers_of_numerals [] are = refl
 numbers_of_numerals (w ∷ ws) are = λ i. in_front (number_in-numeral w are.0 i) (numbers_of_numerals ws are.1 i)
@@ -94,7 +94,7 @@ unfolding in_front
 in_front_some None rest ns e = none_some e
 in_front_some (Some n) rest ns e = let more = mapped_some (λ ms. n ∷ ms) rest ns e in (n, more.0, refl, more.1, sym more.2)
 
-numerals_of_numbers : (ws : List (List ℕ)) (ns : List ℕ) → numbers ws ≡ Some ns → All IsNumeral ws × (ns ≡ map value ws)
+numerals_of_numbers : (ws : List (List ℕ)) (ns : List ℕ) → numbers ws ≡ Some ns → AllByRecursion IsNumeral ws × (ns ≡ map value ws)
 unfolding numbers in_front
 numerals_of_numbers [] ns e = (tt, cc)
 numerals_of_numbers (w ∷ ws) ns e =
@@ -137,7 +137,7 @@ pub record TypedWords (ws : List (List ℕ)) (n : ℕ) (bs : List ℕ) : Type 0 
   pub name : List ℕ
   pub bytes : List (List ℕ)
   pub name_is : IsNumeral name
-  pub bytes_are : All IsNumeral bytes
+  pub bytes_are : AllByRecursion IsNumeral bytes
   pub these : ws ≡ codes "letter" ∷ ((name ++ codes ":") ∷ bytes)
   pub name_value : n ≡ value name
   pub byte_values : bs ≡ map value bytes

@@ -23,7 +23,7 @@
 --                      was none
 --   Examples           some lines, and what they say or why they are refused
 use Rattle.std.specs.Prelude.{◌≡◌, ℕ, ◌<◌, ◌≤◌, true, List, [], ◌∷◌, ◌++◌, map, length, Some, None, codes, Option, ◌≢◌, slice_index}
-use Rattle.std.specs.List.{AllByRecursion as All}
+use Rattle.std.specs.List.{AllByRecursion}
 use Rattle.frame.specs.Good.{good}
 use Rattle.console.specs.Answers.{answer, line_reply, refused, reply_text}
 use Rattle.console.specs.Numeral.{numeral, value}
@@ -38,10 +38,10 @@ abbrev pub SpacedWords : Type 0
 SpacedWords = (t : List ℕ) → spaced (words t) ≡ t
 
 abbrev pub Unspaced : List ℕ → Type 0
-Unspaced w = All (λ c. c ≢ 32) w
+Unspaced w = AllByRecursion (λ c. c ≢ 32) w
 
 abbrev pub WordsSpaced : Type 0
-WordsSpaced = (w : List ℕ) (ws : List (List ℕ)) → Unspaced w → All Unspaced ws → words (spaced (w ∷ ws)) ≡ w ∷ ws
+WordsSpaced = (w : List ℕ) (ws : List (List ℕ)) → Unspaced w → AllByRecursion Unspaced ws → words (spaced (w ∷ ws)) ≡ w ∷ ws
 
 unfoldable pub typed : List ℕ → List (List ℕ) → List ℕ
 typed d ds = spaced (codes "letter" ∷ ((d ++ codes ":") ∷ ds))
@@ -53,19 +53,19 @@ abbrev pub BlankIsEmpty : Type 0
 BlankIsEmpty = (t : List ℕ) → reading t ≡ blank → t ≡ []
 
 abbrev pub TypedIsRead : Type 0
-TypedIsRead = (d : List ℕ) (ds : List (List ℕ)) → IsNumeral d → All IsNumeral ds → reading (typed d ds) ≡ letter (value d) (map value ds)
+TypedIsRead = (d : List ℕ) (ds : List (List ℕ)) → IsNumeral d → AllByRecursion IsNumeral ds → reading (typed d ds) ≡ letter (value d) (map value ds)
 
 abbrev pub ReadWasTyped : Type 0
 ReadWasTyped =
     (t : List ℕ) (n : ℕ) (bs : List ℕ) → reading t ≡ letter n bs →
-    (d : List ℕ) × (ds : List (List ℕ)) × IsNumeral d × All IsNumeral ds × (t ≡ typed d ds) × (n ≡ value d) × (bs ≡ map value ds)
+    (d : List ℕ) × (ds : List (List ℕ)) × IsNumeral d × AllByRecursion IsNumeral ds × (t ≡ typed d ds) × (n ≡ value d) × (bs ≡ map value ds)
 
 abbrev pub LineWasTyped : Type 0
 LineWasTyped = (t : List ℕ) → reading t ≡ current_line → t ≡ codes "line"
 
 pub record Good (n : ℕ) (bs : List ℕ) : Type 0 where
   pub frame : good n bs ≡ true
-  pub bytes : All (λ x. x ≤ 255) bs
+  pub bytes : AllByRecursion (λ x. x ≤ 255) bs
 
 abbrev pub GoodOrRefused : Type 0
 GoodOrRefused = (n : ℕ) (bs : List ℕ) → (Good n bs → bad_letter n bs ≡ None) × (bad_letter n bs ≡ None → Good n bs)

@@ -9,7 +9,7 @@ use Rattle.std.specs.Prelude.{ℕ, Bool, true, ◌&&◌, List, [], ◌∷◌, le
 abbrev pub good : ℕ → List ℕ → Bool
 good id xs = nat_lt id 2048 && nat_le (length xs) 8
 
-unfoldable pub all_bytes : List ℕ → Bool
+abbrev pub all_bytes : List ℕ → Bool
 all_bytes [] = true
 all_bytes (x ∷ xs) = nat_lt x 256 && all_bytes xs
 

@@ -4,8 +4,4 @@ mod checks;
 #[cfg(test)]
 mod lines;
 #[cfg(test)]
-mod readings;
-#[cfg(test)]
 mod second;
-#[cfg(test)]
-mod second_reader;

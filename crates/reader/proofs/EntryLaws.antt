@@ -2,10 +2,10 @@
 -- of numbers if it does so of their bits (`reads_standing`, `standing_reads`). Rests on the laws of lists and of reading. Assumes nothing else.
 use Rattle.std.proofs.Common.{◌≡◌, ℕ, zero, suc, ◌≤◌, Bool, true, false, cond, ◌&&◌, ltb, leb, ◌⊎◌, List, [], ◌∷◌, ◌++◌, map, length, get_or, take, drop, is_some, Some, None, Option, sym, refl, ap, ◌∙◌, subst, ap₂, inl, inr, arith}
 use Rattle.std.proofs.lemmas.List.{length-map, map-append, take_at}
-use Rattle.std.proofs.lemmas.Bool.{and_from, both_ways, cond-false, cond-true, eq-eqb, le-leb, ltb-false}
+use Rattle.std.proofs.lemmas.Bool.{and_from, and_parts, both_ways, cond-false, cond-true, eq-eqb, le-leb, ltb-false}
 use Rattle.bits.specs.Bits.{bit, bit_at}
 use Rattle.frame.specs.Entries.{made, make_answer, make_room, read}
-use Rattle.frame.specs.Good.{good}
+use Rattle.frame.specs.Good.{all_bytes, good, good_frame}
 use Rattle.frame.specs.Line.{line}
 use Rattle.reader.proofs.ReadingLaws.{nothing_standing, one_reading, standing_found}
 use Rattle.reader.specs.Entries.{ReadBy, ReadFrame, ReadNothing, ReadSays, Reads, read_answer, read_refusal, read_room}
@@ -85,6 +85,10 @@ not-refused_says bs r o s none so = subst (λ n. ReadBy n bs r o s) (sym none) s
 
 -- ---- laws
 
+-- a good frame is a good letter, which is all that is asked where a line is made
+good_letter : (id : ℕ) (xs : List ℕ) → good_frame id xs ≡ true → good id xs ≡ true
+good_letter id xs e = (and_parts (good id xs) (all_bytes xs) e).0
+
 -- answers are told apart by their numbers
 by_answer : (k : ℕ) (bs r : List ℕ) (n l e : ℕ) (s : List ℕ) → ReadBy k bs r (read n l e) s → ReadFrame bs r (read n l e) s
 by_answer zero bs r n l e s (inl frame) = frame
@@ -94,7 +98,7 @@ by_answer (suc k) bs r n l e s refusal = absurd (omega (arith, ap (λ o. o.0) re
 pub read_then_made : ReadThenMade
 read_then_made bs r s n k e room says fits =
     let frame = by_answer (read_refusal bs r) bs r n k e s says in
-    let is_good = frame.stands.is_good in
+    let is_good = good_letter frame.id frame.bytes frame.stands.is_good in
     let row : List Bool = line frame.id frame.bytes in
     let name : n ≡ frame.id = ap (λ o. get_or o.1 0 0) frame.answer in
     let count : k ≡ length frame.bytes = ap (λ o. get_or o.1 1 0) frame.answer in
@@ -123,7 +127,7 @@ made_then_read n xs room r o s is_good fits eight small says =
     stands = record {
       is_good = is_good;
       behind = drop (length (line n xs)) room;
-      these = cond-true (good n xs && leb (length (line n xs)) (length room)) _ _ (and_from _ _ is_good (le-leb (length (line n xs)) (length room) fits));
+      these = cond-true (good n xs && leb (length (line n xs)) (length room)) _ _ (and_from _ _ (good_letter n xs is_good) (le-leb (length (line n xs)) (length room) fits));
     }
 
     either : ReadFrame (make_room n xs room) r o s ⊎ ReadNothing (make_room n xs room) r o s

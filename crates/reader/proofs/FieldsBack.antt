@@ -1,6 +1,6 @@
 -- A frame back from the bits of its fields (`id_back`, `length_back`, `data_back`), and bits that are the fields before the check of
 -- the frame that is read from them (`covered_back`). Rests on the laws of bits, numbers and fields. Assumes nothing else.
-use Rattle.std.proofs.Common.{◌≡◌, ℕ, zero, suc, ◌+◌, ◌-◌, ◌*◌, ◌^◌, ◌<◌, ◌≤◌, Bool, true, List, [], ◌∷◌, ◌++◌, length, take, drop, sym, refl, ap, ◌∙◌, ap₂, lt_of_lt_of_le, mod-eq_of_lt, arith, pow_mono}
+use Rattle.std.proofs.Common.{◌≡◌, ℕ, zero, suc, ◌+◌, ◌*◌, ◌^◌, ◌<◌, ◌≤◌, Bool, true, List, [], ◌∷◌, ◌++◌, length, take, drop, sym, refl, ap, ◌∙◌, ap₂, lt_of_lt_of_le, mod-eq_of_lt, arith, pow_mono}
 use Rattle.std.proofs.lemmas.List.{append_assoc, drop_at, drop-append-le, drop-drop, drop-take, length-drop, length-take, length-take-le, take-append-drop, take-append-le, take_at, take-take}
 use Rattle.bits.proofs.BitLaws.{length-bits_of}
 use Rattle.bits.proofs.NumberLaws.{bits_of-number_from, number-bits_of, number_lt}
@@ -11,7 +11,7 @@ use Rattle.frame.proofs.FieldLaws.{check, drop_header, fields_apart}
 use Rattle.frame.proofs.GoodLaws.{bytes_first, bytes_cons, good_parts}
 use Rattle.frame.proofs.LineLaws.{length_fields}
 use Rattle.frame.specs.Fields.{fields}
-use Rattle.frame.specs.Good.{all_bytes, good}
+use Rattle.frame.specs.Good.{all_bytes, good_frame}
 use Rattle.reader.specs.Reading.{bytes_in, length_in}
 
 -- ---- rows of bits
@@ -64,7 +64,7 @@ bytes_in-bytes_bits (x ∷ xs) w e =
 
 -- ---- a good frame back from its fields, with anything behind them
 
-module _ (id : ℕ) (xs : List ℕ) (is_good : good id xs ≡ true) (z : List Bool) where
+module _ (id : ℕ) (xs : List ℕ) (is_good : good_frame id xs ≡ true) (z : List Bool) where
   long : 30 ≤ length (fields id xs)
   long = omega (arith, length_fields id xs)
 

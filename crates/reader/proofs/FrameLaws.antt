@@ -13,7 +13,7 @@ use Rattle.frame.proofs.FieldLaws.{Joined, bytes_bits-++}
 use Rattle.frame.proofs.GoodLaws.{bytes_first, good_from}
 use Rattle.frame.proofs.LineLaws.{length_fields, same_front}
 use Rattle.frame.specs.Fields.{fields}
-use Rattle.frame.specs.Good.{all_bytes, good}
+use Rattle.frame.specs.Good.{all_bytes, good_frame}
 use Rattle.reader.proofs.FieldsBack.{bytes_in_bytes, covered_back, length-bytes_in, number_below}
 use Rattle.reader.proofs.PrefixLaws.{begins-length, length_kept, same_behind}
 use Rattle.reader.specs.Beginning.{Begins}
@@ -82,7 +82,7 @@ module _ (len x : ℕ) where
     pub behind : take (len - i) (drop i bytes) ≡ drop i data_of
 
   module _ (few : len ≤ 8) where
-    pub frame-good : good id-of data_of ≡ true
+    pub frame-good : good_frame id-of data_of ≡ true
     frame-good = good_from id-of data_of (number_below 11 head) (omega (arith, length-bytes_in len (drop 15 head), few)) (bytes_in_bytes len (drop 15 head))
 
     pub head-is : length_in head ≡ len → covered id-of data_of ≡ head

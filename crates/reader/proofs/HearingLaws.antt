@@ -7,7 +7,7 @@ use Rattle.std.proofs.lemmas.Bool.{both_ways, cases_lt, eq-eqb, eqb-false, eqb-t
 use Rattle.bits.proofs.BitLaws.{length-bits_of}
 use Rattle.frame.proofs.LineLaws.{length_fields, not_other, same_first}
 use Rattle.frame.specs.Fields.{fields}
-use Rattle.frame.specs.Good.{all_bytes, good}
+use Rattle.frame.specs.Good.{all_bytes, good_frame}
 use Rattle.frame.specs.Line.{line, start, end}
 use Rattle.frame.specs.Stuffing.{due, run, stuff, stuff_due}
 use Rattle.reader.proofs.PrefixLaws.{begins-length}
@@ -96,7 +96,7 @@ goes_further f d (r ∷ more) e h next = next r more refl
 pub goes_no_further : (f d rest : List Bool) → f ≡ d ++ rest → length f ≡ length d → rest ≡ []
 goes_no_further f d rest e h = nil_from_length rest (omega (arith, ap length e, length-append d rest, h))
 
-module _ (id : ℕ) (xs : List ℕ) (is_good : good id xs ≡ true) (d rest : List Bool) (e : fields id xs ≡ d ++ rest) where
+module _ (id : ℕ) (xs : List ℕ) (is_good : good_frame id xs ≡ true) (d rest : List Bool) (e : fields id xs ≡ d ++ rest) where
   known : 15 ≤ length d → length_in d ≡ length xs
   known h = begins-length d (record { id = id; bytes = xs; rest = rest; is_good = is_good; these = e }) h
 
@@ -249,7 +249,7 @@ still_within u r has = either (cases_lt 0 r.end)
     line-is = line_from (row r.fields) r.last r.run has.front has.stuffed so.id so.bytes so.rest so.these
 
     either : (0 < r.end) ⊎ (r.end ≤ 0)
-        → (n : ℕ) × (xs : List ℕ) × (w : List Bool) × (good n xs ≡ true) × (line n xs ≡ u ++ w) × (w ≡ [] → ⊥)
+        → (n : ℕ) × (xs : List ℕ) × (w : List Bool) × (good_frame n xs ≡ true) × (line n xs ≡ u ++ w) × (w ≡ [] → ⊥)
     either (inr none) =
         let rest : List Bool = stuff_due r.last r.run so.rest ++ end in
         let zero-end : r.end ≡ 0 = omega (arith, none) in

@@ -12,7 +12,7 @@ use Rattle.frame.proofs.LineLaws.{length-line, same_first}
 use Rattle.frame.proofs.StuffLaws.{unstuff-stuff}
 use Rattle.frame.specs.Contents.{frame_data}
 use Rattle.frame.specs.Fields.{fields}
-use Rattle.frame.specs.Good.{good}
+use Rattle.frame.specs.Good.{good_frame}
 use Rattle.frame.specs.Line.{line, start, end}
 use Rattle.frame.specs.Stuffing.{stuff, unstuff}
 use Rattle.frame.specs.declared.frame.Frame.{Frame}
@@ -51,7 +51,7 @@ front_begins (u ∷ us) (b ∷ bs) e =
 
 -- ---- the frame whose line stands there
 
-module _ (id : ℕ) (xs : List ℕ) (is_good : good id xs ≡ true) (w : List Bool) where
+module _ (id : ℕ) (xs : List ℕ) (is_good : good_frame id xs ≡ true) (w : List Bool) where
   -- with stuff bits taken out, the fields come first
   row_stands : (z : List Bool) × (row_in (line id xs ++ w) ≡ fields id xs ++ z)
   unfolding line
@@ -73,26 +73,26 @@ module _ (id : ℕ) (xs : List ℕ) (is_good : good id xs ≡ true) (w : List Bo
   unfolding found
   found-line =
       let bs : List Bool = line id xs ++ w in
-      ap₂ (λ i x. cond (good i x && begins (line i x) bs) (Some (i, x, length (line i x))) None) id_stands data_stands
-      ∙ cond-true (good id xs && begins (line id xs) bs) _ _ (and_from (good id xs) (begins (line id xs) bs) is_good (begins_front (line id xs) w))
+      ap₂ (λ i x. cond (good_frame i x && begins (line i x) bs) (Some (i, x, length (line i x))) None) id_stands data_stands
+      ∙ cond-true (good_frame id xs && begins (line id xs) bs) _ _ (and_from (good_frame id xs) (begins (line id xs) bs) is_good (begins_front (line id xs) w))
 
 pub found_standing : (id : ℕ) (xs : List ℕ) (bs : List Bool) → Stands id xs bs → found bs ≡ Some (id, xs, length (line id xs))
 found_standing id xs bs stands = ap found stands.these ∙ found-line id xs stands.is_good stands.behind
 
 pub standing_found : (id : ℕ) (xs : List ℕ) (bs : List Bool) (e : ℕ) → found bs ≡ Some (id, xs, e) → Stands id xs bs × (e ≡ length (line id xs))
 unfolding found
-standing_found id xs bs e is = go (good (id_in bs) (data_in bs) && begins (line (id_in bs) (data_in bs)) bs) refl is
+standing_found id xs bs e is = go (good_frame (id_in bs) (data_in bs) && begins (line (id_in bs) (data_in bs)) bs) refl is
   where
-    go : (t : Bool) → (good (id_in bs) (data_in bs) && begins (line (id_in bs) (data_in bs)) bs) ≡ t
+    go : (t : Bool) → (good_frame (id_in bs) (data_in bs) && begins (line (id_in bs) (data_in bs)) bs) ≡ t
         → cond {A = Option (ℕ × List ℕ × ℕ)} t (Some (id_in bs, data_in bs, length (line (id_in bs) (data_in bs)))) None ≡ Some (id, xs, e) → Stands id xs bs × (e ≡ length (line id xs))
     go true test is =
         let same : ◌≡◌ {A = ℕ × List ℕ × ℕ} (id_in bs, data_in bs, length (line (id_in bs) (data_in bs))) (id, xs, e) = cc in
         let name : id_in bs ≡ id = ap (λ x. x.0) same in
         let bytes : data_in bs ≡ xs = ap (λ x. x.1) same in
         let ends : length (line (id_in bs) (data_in bs)) ≡ e = ap (λ x. x.2) same in
-        let (is_good, at_front) = and_parts (good (id_in bs) (data_in bs)) (begins (line (id_in bs) (data_in bs)) bs) test in
+        let (is_good, at_front) = and_parts (good_frame (id_in bs) (data_in bs)) (begins (line (id_in bs) (data_in bs)) bs) test in
         let (w, these) = front_begins (line (id_in bs) (data_in bs)) bs at_front in (
-          record { is_good = ap₂ good (sym name) (sym bytes) ∙ is_good; behind = w; these = these ∙ ap₂ (λ i x. line i x ++ w) name bytes },
+          record { is_good = ap₂ good_frame (sym name) (sym bytes) ∙ is_good; behind = w; these = these ∙ ap₂ (λ i x. line i x ++ w) name bytes },
           sym ends ∙ ap₂ (λ i x. length (line i x)) name bytes,
         )
     go false test is = let no : ◌≡◌ {A = ℕ} 0 1 = cc in absurd (omega arith)
@@ -146,7 +146,7 @@ found_stands bs = record {
 -- ---- bits that were heard
 
 -- a frame is good
-pub frame_is_good : (f : Frame) → good f.id (frame_data f) ≡ true
+pub frame_is_good : (f : Frame) → good_frame f.id (frame_data f) ≡ true
 frame_is_good f = good_from f.id (frame_data f) f.good.0 (few_bytes f) f.narrow
 
 -- the bits that the code has heard up to the place i, the start in front

@@ -5,14 +5,14 @@
 --   least_length d     the least number of bytes that a frame can have whose fields begin with the bits d: as if only low bits came
 use Rattle.std.specs.Prelude.{◌≡◌, ℕ, Bool, true, false, List, ◌++◌, replicate}
 use Rattle.frame.specs.Fields.{fields}
-use Rattle.frame.specs.Good.{good}
+use Rattle.frame.specs.Good.{good_frame}
 use Rattle.reader.specs.Reading.{length_in}
 
 pub record Begins (d : List Bool) : Type 0 where
   pub id : ℕ
   pub bytes : List ℕ
   pub rest : List Bool
-  pub is_good : good id bytes ≡ true
+  pub is_good : good_frame id bytes ≡ true
   pub these : fields id bytes ≡ d ++ rest
 
 abbrev pub least_length : List Bool → ℕ

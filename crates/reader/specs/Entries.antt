@@ -14,12 +14,12 @@
 use Rattle.std.specs.Prelude.{◌≡◌, ℕ, zero, suc, true, cond, ◌⊎◌, List, ◌++◌, map, length, drop, is_some, Some, None, Option, ◌==◌}
 use Rattle.bits.specs.Bits.{bit}
 use Rattle.frame.specs.Entries.{read, nothing, refused}
-use Rattle.frame.specs.Good.{good}
+use Rattle.frame.specs.Good.{good_frame}
 use Rattle.frame.specs.Line.{line}
 use Rattle.reader.specs.Places.{first_above}
 
 pub record Reads (id : ℕ) (xs bs : List ℕ) : Type 0 where
-  pub is_good : good id xs ≡ true
+  pub is_good : good_frame id xs ≡ true
   pub behind : List ℕ
   pub these : bs ≡ map bit (line id xs) ++ behind
 

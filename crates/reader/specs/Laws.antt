@@ -17,9 +17,9 @@
 --   First m xs         what it is for a number to be the first above m, and for none to be
 --   FirstAbove        the place that is given is that of the first number that is too large
 --   BytesInRow       where a letter stands in a row behind i others, its bytes are what is handed back of i
-use Rattle.std.specs.Prelude.{◌≡◌, ℕ, ◌+◌, ◌*◌, ◌<◌, ◌≤◌, Bool, true, List, [], ◌∷◌, ◌++◌, map, length, take, drop, Some, None, codes, ◌≢◌, slice_index}
+use Rattle.std.specs.Prelude.{◌≡◌, ℕ, ◌*◌, ◌<◌, ◌≤◌, Bool, true, List, [], ◌∷◌, ◌++◌, map, length, take, drop, Some, None, codes, ◌≢◌, slice_index}
 use Rattle.frame.specs.Entries.{made, make_answer, make_room, read}
-use Rattle.frame.specs.Good.{good}
+use Rattle.frame.specs.Good.{good_frame}
 use Rattle.frame.specs.Line.{line}
 use Rattle.reader.specs.Entries.{ReadSays}
 use Rattle.reader.specs.Hearing.{Has}
@@ -33,18 +33,18 @@ use Rattle.reader.specs.declared.reader.Reader.{Reader}
 
 abbrev pub OneReading : Type 0
 OneReading =
-    (m n : ℕ) (xs ys : List ℕ) (u v : List Bool) → good m xs ≡ true → good n ys ≡ true → line m xs ++ u ≡ line n ys ++ v →
+    (m n : ℕ) (xs ys : List ℕ) (u v : List Bool) → good_frame m xs ≡ true → good_frame n ys ≡ true → line m xs ++ u ≡ line n ys ++ v →
     (m ≡ n) × (xs ≡ ys) × (u ≡ v)
 
 abbrev pub NoLineBeginsAnother : Type 0
 NoLineBeginsAnother =
-    (m n : ℕ) (xs ys : List ℕ) (u : List Bool) → good m xs ≡ true → good n ys ≡ true → line m xs ++ u ≡ line n ys → (m ≡ n) × (xs ≡ ys) × (u ≡ [])
+    (m n : ℕ) (xs ys : List ℕ) (u : List Bool) → good_frame m xs ≡ true → good_frame n ys ≡ true → line m xs ++ u ≡ line n ys → (m ≡ n) × (xs ≡ ys) × (u ≡ [])
 
 abbrev pub MadeIsRead : Type 0
-MadeIsRead = (n : ℕ) (xs : List ℕ) (w : List Bool) → good n xs ≡ true → found (line n xs ++ w) ≡ Some (n, xs, length (line n xs))
+MadeIsRead = (n : ℕ) (xs : List ℕ) (w : List Bool) → good_frame n xs ≡ true → found (line n xs ++ w) ≡ Some (n, xs, length (line n xs))
 
 abbrev pub ReadWasMade : Type 0
-ReadWasMade = (bs : List Bool) (n : ℕ) (xs : List ℕ) (e : ℕ) → found bs ≡ Some (n, xs, e) → (good n xs ≡ true) × (take e bs ≡ line n xs) × (e ≡ length (line n xs))
+ReadWasMade = (bs : List Bool) (n : ℕ) (xs : List ℕ) (e : ℕ) → found bs ≡ Some (n, xs, e) → (good_frame n xs ≡ true) × (take e bs ≡ line n xs) × (e ≡ length (line n xs))
 
 pub record Found (bs : List Bool) : Type 0 where
   pub standing : (n : ℕ) (xs : List ℕ) → Stands n xs bs → found bs ≡ Some (n, xs, length (line n xs))
@@ -70,7 +70,7 @@ NineBytes =
 abbrev pub StillWithin : Type 0
 StillWithin =
     (u : List Bool) (r : Reader) → Has u r →
-    (n : ℕ) × (xs : List ℕ) × (w : List Bool) × (good n xs ≡ true) × (line n xs ≡ u ++ w) × (w ≢ [])
+    (n : ℕ) × (xs : List ℕ) × (w : List Bool) × (good_frame n xs ≡ true) × (line n xs ≡ u ++ w) × (w ≢ [])
 
 -- ---- the entries
 
@@ -81,7 +81,7 @@ ReadThenMade =
 
 abbrev pub MadeThenRead : Type 0
 MadeThenRead =
-    (n : ℕ) (xs room r : List ℕ) (o : ℕ × List ℕ) (s : List ℕ) → good n xs ≡ true → length (line n xs) ≤ length room → length r ≡ 8 →
+    (n : ℕ) (xs room r : List ℕ) (o : ℕ × List ℕ) (s : List ℕ) → good_frame n xs ≡ true → length (line n xs) ≤ length room → length r ≡ 8 →
     first_above 1 (make_room n xs room) ≡ None → ReadSays (make_room n xs room) r o s →
     (o ≡ read n (length xs) (length (line n xs))) × (s ≡ xs ++ drop (length xs) r)
 

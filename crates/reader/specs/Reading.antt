@@ -14,12 +14,12 @@
 use Rattle.std.specs.Prelude.{◌≡◌, ℕ, zero, suc, Bool, true, false, cond, not, ◌&&◌, List, [], ◌∷◌, ◌++◌, length, take, drop, Some, None, Option}
 use Rattle.bits.specs.Bits.{differ}
 use Rattle.bits.specs.Number.{number}
-use Rattle.frame.specs.Good.{good}
+use Rattle.frame.specs.Good.{good_frame}
 use Rattle.frame.specs.Line.{line, start}
 use Rattle.frame.specs.Stuffing.{unstuff}
 
 pub record Stands (id : ℕ) (xs : List ℕ) (bs : List Bool) : Type 0 where
-  pub is_good : good id xs ≡ true
+  pub is_good : good_frame id xs ≡ true
   pub behind : List Bool
   pub these : bs ≡ line id xs ++ behind
 
@@ -46,5 +46,5 @@ begins (u ∷ us) (b ∷ bs) = not (differ u b) && begins us bs
 
 unfoldable pub found : List Bool → Option (ℕ × List ℕ × ℕ)
 found bs =
-    cond (good (id_in bs) (data_in bs) && begins (line (id_in bs) (data_in bs)) bs)
+    cond (good_frame (id_in bs) (data_in bs) && begins (line (id_in bs) (data_in bs)) bs)
     (Some (id_in bs, data_in bs, length (line (id_in bs) (data_in bs)))) None

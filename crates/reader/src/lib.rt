@@ -1,4 +1,6 @@
 // Lines read, bit by bit, and the bytes of a frame handed back as a part of a row.
+#![tactic(auto)]
+
 mod entries;
 mod hearing;
 pub mod laws;

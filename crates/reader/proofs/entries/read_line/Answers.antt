@@ -9,6 +9,6 @@ pub returns : goal.returns
 returns c =
     let bs = c.args.bits.now in
     let room = c.args.room.now in
-    let small : is_some (first_above 1 bs) ≡ false = ap is_some (sym c.place-above.ensures) ∙ sym c.if-is-some.ensures in
+    let small : is_some (first_above 1 bs) ≡ false = ap is_some (sym c.place_above.ensures) ∙ sym c.if-is_some.ensures in
     not-refused_says bs room _ _ (not-refused bs room small (omega arith))
-    (handed_over bs room (seen c.of.result) _ _ c.of.ensures small c.hand-over.ensures.answer c.hand-over.ensures.room)
+    (handed_over bs room (seen c.of.result) _ _ c.of.ensures small c.hand_over.ensures.answer c.hand_over.ensures.room)

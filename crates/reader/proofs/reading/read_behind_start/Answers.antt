@@ -10,17 +10,17 @@ loop-place-init c = subst (λ u. Has u c.new-reader.result) (sym (heard_none c.a
 
 pub loop-place-preserved : goal.loop-place-preserved
 loop-place-preserved c =
-    subst (λ u. Has u c.in-Within.next) (heard_more c.args.bits.now c.loop-place.place (omega arith) c.is-high.result c.is-high.ensures)
+    subst (λ u. Has u c.in-Within.next) (heard_more c.args.bits.now c.loop-place.place (omega arith) c.is_high.result c.is_high.ensures)
     (c.in-Within.ensures (heard_to c.args.bits.now c.loop-place.place) c.loop-place.invariant)
 
 pub returns-in-Line : goal.returns-in-Line
 returns-in-Line c =
-    line-found c.args.bits.now c.loop-place.place (omega arith) c.is-high.result c.in-Line.frame c.is-high.ensures
+    line-found c.args.bits.now c.loop-place.place (omega arith) c.is_high.result c.in-Line.frame c.is_high.ensures
     (c.in-Line.ensures (heard_to c.args.bits.now c.loop-place.place) c.loop-place.invariant)
 
 pub returns-in-Broken : goal.returns-in-Broken
 returns-in-Broken c =
-    broken_none c.args.bits.now c.loop-place.place (omega arith) c.is-high.result c.is-high.ensures
+    broken_none c.args.bits.now c.loop-place.place (omega arith) c.is_high.result c.is_high.ensures
     (c.in-Broken.ensures (heard_to c.args.bits.now c.loop-place.place) c.loop-place.invariant)
 
 pub returns : goal.returns

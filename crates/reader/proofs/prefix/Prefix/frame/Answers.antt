@@ -1,23 +1,23 @@
 -- Byte by byte the frame is taken from the number, which has the bits of its fields.
 use Rattle.std.proofs.Common.{◌≡◌, ℕ, ◌+◌, ◌-◌, ◌*◌, ◌/◌, ◌^◌, ◌<◌, true, cond, List, take, is_some, Some, None, Option, sym, refl, ap, ◌∙◌, subst, ap₂, arith, shr_lt}
 use native.Mathlib.Nat.{sub-zero}
-use Rattle.std.proofs.lemmas.Bool.{cond-true, eqb-true}
+use Rattle.std.proofs.lemmas.Bool.{and_parts, cond-true, eqb-true}
 use Rattle.std.specs.Option.{option_map}
 use Rattle.bits.proofs.BitLaws.{bits_of-add, length-bits_of}
 use Rattle.bits.specs.Bits.{bits_of}
 use Rattle.frame.proofs.GoodLaws.{good_parts}
 use Rattle.frame.specs.Contents.{contents}
 use Rattle.frame.specs.Fields.{fields}
-use Rattle.frame.specs.Good.{good}
+use Rattle.frame.specs.Good.{all_bytes, good}
 use Rattle.frame.specs.declared.frame.Frame.{Frame}
-use Rattle.reader.proofs.FrameLaws.{head, id-of, data_of, taken_none, taken_more, taken-all, frame-good, fields_are}
+use Rattle.reader.proofs.FrameLaws.{TakenTo, head, id-of, data_of, taken_none, taken_more, taken-all, frame-good, fields_are}
 use Rattle.reader.proofs.PrefixLaws.{length_kept}
 use Rattle.reader.specs.Beginning.{Begins}
 use Rattle.reader.specs.Hearing.{row, whole}
 use Rattle.reader.specs.Reading.{length_in}
 use Rattle.reader.specs.declared.prefix.Prefix.{Prefix}
 use Rattle.reader.proofs.prefix.Prefix.frame.Goals as goal
-use Rattle.reader.proofs.prefix.Prefix.frame.Goals.{After-loop-place, After-new}
+use Rattle.reader.proofs.prefix.Prefix.frame.Goals.{After-new}
 
 module _ (p : Prefix) (all : whole p ≡ true) where
   count_is : p.count ≡ 30 + 8 * p.len
@@ -52,25 +52,29 @@ loop-place-preserved c =
     (rw at c.loop-place.invariant)
 
 -- in the end the identifier is left, and all bytes are taken
-ended : (c : After-loop-place) → (c.loop-place.rest / 16 ≡ id-of c.args.self.len (c.args.self.number / 2 ^ 15)) × (take c.args.self.len c.loop-place.bytes ≡ data_of c.args.self.len (c.args.self.number / 2 ^ 15))
-ended c =
-    let p = c.args.self in
-    let first : c.loop-place.place ≡ 0 = omega (arith, c.loop-place-test.false) in
-    taken-all p.len (p.number / 2 ^ 15) p.few c.loop-place.rest c.loop-place.bytes (rw first at c.loop-place.invariant)
+ended :
+    (p : Prefix) (place rest : ℕ) (bytes : List ℕ) → place ≡ 0 → TakenTo p.len (p.number / 2 ^ 15) place rest bytes →
+    (rest / 16 ≡ id-of p.len (p.number / 2 ^ 15)) × (take p.len bytes ≡ data_of p.len (p.number / 2 ^ 15))
+ended p place rest bytes first taken = taken-all p.len (p.number / 2 ^ 15) p.few rest bytes (rw first at taken)
 
-pub overflow-cast-rest-2 : goal.overflow-cast-rest-2
-overflow-cast-rest-2 c =
+pub overflow_cast-rest-2 : goal.overflow_cast-rest-2
+overflow_cast-rest-2 c =
     let p = c.args.self in
     let small : id-of p.len (p.number / 2 ^ 15) < 2048 = (good_parts _ _ (frame-good p.len (p.number / 2 ^ 15) p.few)).small in
-    omega (arith, small, (ended c).0)
+    let first : c.loop-place.place ≡ 0 = omega (arith, c.loop-place-test.false) in
+    omega (arith, small, (ended p c.loop-place.place c.loop-place.rest c.loop-place.bytes first c.loop-place.invariant).0)
 
 -- so a frame is made
 made : (c : After-new) → option_map contents c.new.result ≡ Some (id-of c.args.self.len (c.args.self.number / 2 ^ 15), data_of c.args.self.len (c.args.self.number / 2 ^ 15))
 made c =
     let p = c.args.self in
-    let (name, bytes) = ended (goal.at.unwrap-requires c).After-loop-place in
-    let all : take (p.len - 0) c.loop-place.bytes ≡ data_of p.len (p.number / 2 ^ 15) = ap (λ k. take k c.loop-place.bytes) (sub-zero p.len) ∙ bytes in
-    c.new.ensures ∙ ap₂ (λ n xs. cond (good n xs) (Some (n, xs)) None) name all ∙ cond-true _ _ _ (frame-good p.len (p.number / 2 ^ 15) p.few)
+    let id : ℕ = id-of p.len (p.number / 2 ^ 15) in
+    let all_data : List ℕ = data_of p.len (p.number / 2 ^ 15) in
+    let first : c.loop-place.place ≡ 0 = omega (arith, c.loop-place-test.false) in
+    let (name, bytes) = ended p c.loop-place.place c.loop-place.rest c.loop-place.bytes first c.loop-place.invariant in
+    let all : take (p.len - 0) c.loop-place.bytes ≡ all_data = ap (λ k. take k c.loop-place.bytes) (sub-zero p.len) ∙ bytes in
+    let is_good : good id all_data ≡ true = (and_parts (good id all_data) (all_bytes all_data) (frame-good p.len (p.number / 2 ^ 15) p.few)).0 in
+    c.new.ensures ∙ ap₂ (λ n xs. cond (good n xs) (Some (n, xs)) None) name all ∙ cond-true (good id all_data) _ _ is_good
 
 some_made : (o : Option Frame) (x : ℕ × List ℕ) → option_map contents o ≡ Some x → is_some o ≡ true
 some_made None x e = let no : ◌≡◌ {A = ℕ} 0 1 = cc in absurd (omega arith)

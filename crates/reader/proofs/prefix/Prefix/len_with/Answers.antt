@@ -3,7 +3,6 @@ use Rattle.std.proofs.Common.{◌≡◌, ◌+◌, ◌-◌, ◌*◌, ◌%◌, ◌
 use Rattle.std.proofs.lemmas.Nat.{one_shl}
 use Rattle.std.proofs.lemmas.Bool.{ltb-false, ltb-true}
 use Rattle.bits.proofs.BitLaws.{bool_byte-is}
-use Rattle.bits.specs.Bits.{bit}
 use Rattle.reader.proofs.PrefixLaws.{length_before, length_behind, length-bit, least_behind, least_bit}
 use Rattle.reader.proofs.TestLaws.{count_is}
 use Rattle.reader.specs.Beginning.{least_length}
@@ -35,8 +34,8 @@ least c =
     ap₂ (λ k t. k * t) (doubled c) (one_shl (14 - c.args.self.count) 32 (omega arith) ∙ ap (λ n. 2 ^ (14 - n)) (sym (count_is c.args.self)))
     ∙ sym (least_bit (row c.args.self) c.args.bit (omega (arith, count_is c.args.self, c.if-self-lt-ID.false)) (omega (arith, count_is c.args.self, c.if-self-ge-HEADER.false)))
 
-pub returns-then-is-too-long : goal.returns-then-is-too-long
-returns-then-is-too-long c = omega (arith, ltb-true 8 _ (sym c.if-is-too-long.ensures), least (goal.at.returns-then-is-too-long c).After-from)
+pub returns-then-is_too_long : goal.returns-then-is_too_long
+returns-then-is_too_long c = omega (arith, ltb-true 8 _ (sym c.if-is_too_long.ensures), least (goal.at.returns-then-is_too_long c).After-from)
 
 pub returns : goal.returns
-returns c = (doubled (goal.at.returns c).After-from, omega (arith, ltb-false 8 _ (sym c.if-is-too-long.ensures), least (goal.at.returns c).After-from))
+returns c = (doubled (goal.at.returns c).After-from, omega (arith, ltb-false 8 _ (sym c.if-is_too_long.ensures), least (goal.at.returns c).After-from))

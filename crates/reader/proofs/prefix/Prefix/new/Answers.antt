@@ -5,9 +5,9 @@ use Rattle.bits.specs.Crc.{crc_from}
 use Rattle.bits.specs.Number.{number_from}
 use Rattle.reader.proofs.prefix.Prefix.new.Goals as goal
 
-pub invariant-of-result : goal.invariant-of-result
+pub invariant_of-result : goal.invariant_of-result
 unfolding bits_of crc_from number_from
-invariant-of-result c = (omega arith, (omega arith, (omega arith, (refl, (c.new.ensures, tt)))))
+invariant_of-result c = record { narrow = omega arith; short = omega arith; few = omega arith; counted = refl; checked = c.new.ensures }
 
 pub returns : goal.returns
 unfolding bits_of

@@ -37,7 +37,7 @@ length-bytes_in zero d = refl
 length-bytes_in (suc n) d = ap suc (length-bytes_in n (drop 8 d))
 
 pub bytes_in_bytes : (n : ℕ) (d : List Bool) → all_bytes (bytes_in n d) ≡ true
-unfolding bytes_in all_bytes
+unfolding bytes_in
 bytes_in_bytes zero d = refl
 bytes_in_bytes (suc n) d = bytes_cons (number (take 8 d)) (bytes_in n (drop 8 d)) (number_below 8 d) (bytes_in_bytes n (drop 8 d))
 

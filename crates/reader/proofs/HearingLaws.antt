@@ -7,7 +7,7 @@ use Rattle.std.proofs.lemmas.Bool.{both_ways, cases_lt, eq-eqb, eqb-false, eqb-t
 use Rattle.bits.proofs.BitLaws.{length-bits_of}
 use Rattle.frame.proofs.LineLaws.{length_fields, not_other, same_first}
 use Rattle.frame.specs.Fields.{fields}
-use Rattle.frame.specs.Good.{all_bytes, good_frame}
+use Rattle.frame.specs.Good.{good_frame}
 use Rattle.frame.specs.Line.{line, start, end}
 use Rattle.frame.specs.Stuffing.{due, run, stuff, stuff_due}
 use Rattle.reader.proofs.PrefixLaws.{begins-length}
@@ -113,7 +113,6 @@ module _ (id : ℕ) (xs : List ℕ) (is_good : good_frame id xs ≡ true) (d res
 -- ---- what was heard, and one bit more
 
 pub hears_start : (d : List Bool) → d ≡ [] → Hears (start ∷ []) d start 1 0
-unfolding all_bytes
 hears_start d none = record {
   front = start ∷ [];
   these = refl;

@@ -1,4 +1,6 @@
 // Bits of numbers, the highest first, and the check of a row of bits.
+#![tactic(auto)]
+
 mod crc;
 mod crc_table;
 pub mod laws;

@@ -9,7 +9,7 @@ use Rattle.std.specs.Str.{bytes_eq}
 use Rattle.console.proofs.Apart.{none_some, some_none, sort}
 use Rattle.console.specs.Commands.{Holds, HoldsIf, Says, capped_reading}
 use Rattle.console.specs.Numeral.{number_in, capped}
-use Rattle.console.specs.Reading.{Reading, reading, command_words, letter_words, letter_of, line_words, name_from, before_colon, in_front, numbers, blank, letter, unreadable}
+use Rattle.console.specs.Reading.{Reading, reading, command_words, letter_words, letter_of, line_words, name_from, before_colon, in_front, numbers, blank, unreadable}
 use Rattle.console.specs.Words.{words}
 use Rattle.console.specs.declared.command.Command.TheVariants.{Letter, Unreadable}
 use Rattle.console.specs.declared.numbers.Numbers.{Numbers}

@@ -1,4 +1,6 @@
 // The console's language: a line of text is read, answered, and changes what the session keeps.
+#![tactic(auto)]
+
 mod answer;
 mod command;
 mod judge;

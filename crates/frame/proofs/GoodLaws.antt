@@ -1,6 +1,6 @@
 -- What a good frame is, part by part (`good_parts`, `good_from`), and what it is for numbers to be bytes.
 -- Rests on nothing but the definitions.
-use Rattle.std.proofs.Common.{◌≡◌, ℕ, ◌+◌, ◌<◌, ◌≤◌, true, ◌&&◌, ltb, leb, List, [], ◌∷◌, ◌++◌, length, get_or, take, sym, refl, subst}
+use Rattle.std.proofs.Common.{◌≡◌, ℕ, ◌+◌, ◌<◌, ◌≤◌, true, ltb, leb, List, [], ◌∷◌, ◌++◌, length, get_or, take, sym, refl, subst}
 use Rattle.std.proofs.lemmas.List.{take_more}
 use Rattle.std.proofs.lemmas.Bool.{and_from, and_parts, leb-true, le-leb, lt-ltb, ltb-true}
 use Rattle.frame.specs.Good.{all_bytes, good, good_frame}
@@ -25,17 +25,14 @@ good_from id xs small few bytes =
 -- ---- bytes
 
 pub bytes_first : (x : ℕ) (xs : List ℕ) → all_bytes (x ∷ xs) ≡ true → (x < 256) × (all_bytes xs ≡ true)
-unfolding all_bytes
 bytes_first x xs e =
     let (first, rest) = and_parts (ltb x 256) (all_bytes xs) e in
     (ltb-true x 256 first, rest)
 
 pub bytes_cons : (x : ℕ) (xs : List ℕ) → x < 256 → all_bytes xs ≡ true → all_bytes (x ∷ xs) ≡ true
-unfolding all_bytes
 bytes_cons x xs small bytes = and_from (ltb x 256) (all_bytes xs) (lt-ltb x 256 small) bytes
 
 pub bytes_push : (xs : List ℕ) (x : ℕ) → all_bytes xs ≡ true → x < 256 → all_bytes (xs ++ (x ∷ [])) ≡ true
-unfolding all_bytes
 bytes_push [] x bytes small = bytes_cons x [] small refl
 bytes_push (y ∷ xs) x bytes small =
     let (first, rest) = bytes_first y xs bytes in

@@ -8,7 +8,7 @@ use Rattle.frame.specs.Contents.{frame_data}
 use Rattle.frame.specs.Fields.{fields}
 use Rattle.frame.specs.Line.{line, start, end}
 use Rattle.frame.specs.Making.{Fresh, rest, rest_due, with_bit, written, Fits, Puts}
-use Rattle.frame.specs.Stuffing.{run, due, stuff}
+use Rattle.frame.specs.Stuffing.{due, stuff}
 use Rattle.frame.specs.declared.frame.Frame.{Frame}
 use Rattle.frame.specs.declared.maker.Maker.{Maker}
 use Rattle.frame.proofs.FieldLaws.{few_bytes}

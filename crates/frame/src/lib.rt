@@ -1,4 +1,6 @@
 // Frames, what a node says at once on the bus, and their lines, which are what goes over the bus for them.
+#![tactic(auto)]
+
 mod done;
 mod entries;
 mod fields;

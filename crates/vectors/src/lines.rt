@@ -65,15 +65,15 @@ const KNOWN: [(u64, &[u8], &str); 14] = [
 ];
 
 // What a room holds before a line is made: neither 0 nor 1, so that each place that is written shows.
-const UNTOUCHED: u8 = 170;
+pub(crate) const UNTOUCHED: u8 = 170;
 
 // Bytes that have long runs or join them, so that bits are often put in, also at the fields' end.
 const RUNS: [u8; 5] = [0x00, 0xff, 0x0f, 0xf0, 0x78];
 
-const LARGEST_NAME: u64 = 2047;
+pub(crate) const LARGEST_NAME: u64 = 2047;
 
 // Frames of short, middling and long lines, for what is tried at every place of a line.
-const SOME: [(u64, &[u8]); 5] = [
+pub(crate) const SOME: [(u64, &[u8]); 5] = [
     (0, &[]),
     (99, &[]),
     (5, &[1]),
@@ -83,11 +83,11 @@ const SOME: [(u64, &[u8]); 5] = [
 
 // Numbers as if drawn by lot, but the same ones at each run.
 #[derive(Drop)]
-struct Lots(u64);
+pub(crate) struct Lots(pub(crate) u64);
 
 impl Lots {
     // The state's low bits repeat soon, so only its high ones are drawn.
-    fn draw(&mut self) -> u64 {
+    pub(crate) fn draw(&mut self) -> u64 {
         self.0 = self
             .0
             .wrapping_mul(6364136223846793005)
@@ -96,7 +96,7 @@ impl Lots {
     }
 
     // Half of the bytes are drawn from those with long runs.
-    fn bytes(&mut self) -> [u8; 8] {
+    pub(crate) fn bytes(&mut self) -> [u8; 8] {
         let mut bytes = [0u8; 8];
         for byte in bytes.iter_mut() {
             let lot = self.draw();

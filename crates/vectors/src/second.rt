@@ -30,7 +30,7 @@ fn filled(heap: Global, fields: &[bool]) -> Result<Vec<bool>, AllocError> {
 
 // The bit to put in behind these, if one is. The last five bits tell it, since each run ends there: what is put in is of the
 // other kind.
-fn behind(bits: &[bool]) -> Option<bool> {
+pub fn behind(bits: &[bool]) -> Option<bool> {
     match bits {
         [.., false, false, false, false, false] => Some(true),
         [.., true, true, true, true, true] => Some(false),

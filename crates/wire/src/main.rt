@@ -1,4 +1,6 @@
 // The program: lines from standard input, each answered on standard output.
+#![tactic(auto)]
+
 use console::Session;
 use std::io::{BufRead, BufReader, BufWriter, Write};
 

@@ -1,5 +1,5 @@
 -- A like bit counts one more, and any other begins anew.
-use Rattle.std.proofs.Common.{◌≡◌, ◌+◌, min, ap, ◌∙◌, sym, refl, arith}
+use Rattle.std.proofs.Common.{arith}
 use Rattle.bits.proofs.BitLaws.{differ_is}
 use Rattle.frame.specs.Stuffing.{run}
 use Rattle.frame.proofs.maker.like_bits.Goals as goal

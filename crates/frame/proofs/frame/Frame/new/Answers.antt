@@ -1,13 +1,11 @@
 -- A frame is made where both tests are passed, and holds what was copied.
-use Rattle.std.proofs.Common.{◌≡◌, ◌<◌, true, [], ◌∷◌, ◌++◌, length, get_or, take, Some, sym, refl, ap, ◌∙◌, subst, arith, length-set, rules}
+use Rattle.std.proofs.Common.{◌≡◌, ◌<◌, [], ◌∷◌, ◌++◌, length, get_or, take, Some, sym, refl, ap, ◌∙◌, arith, length-set, rules}
 use Rattle.std.proofs.lemmas.List.{take_all, take_more, take_more_set}
 use Rattle.std.proofs.lemmas.Bool.{and_from, cond-true, lt-ltb, le-leb}
-use Rattle.frame.specs.Good.{all_bytes}
 use Rattle.frame.proofs.GoodLaws.{bytes_more}
 use Rattle.frame.proofs.frame.Frame.new.Goals as goal
 
 pub loop-place-init : goal.loop-place-init
-unfolding all_bytes
 loop-place-init c = (refl, refl, refl)
 
 pub loop-place-preserved : goal.loop-place-preserved

@@ -1,5 +1,4 @@
 -- Slices are compared bit by bit, and these are the lines' own.
-use Rattle.std.proofs.Common.{◌≡◌, subst}
 use Rattle.std.specs.Cmp.{booleans_Decides}
 use Rattle.std.specs.Cmp.Lexicographic.{pointwise_decides}
 use Rattle.frame.specs.Contents.{line_bits}

@@ -1,6 +1,5 @@
 -- A bit is put, and then the rest by the other maker, which has one bit or one turn fewer.
 use Rattle.std.proofs.Common.{◌≡◌, length, sym, ap, ◌∙◌, subst, arith, rules}
-use Rattle.bits.specs.Bits.{bit_at}
 use Rattle.frame.specs.Making.{rest, rest_due, with_bit, Puts, Fits}
 use Rattle.frame.proofs.MakerLaws.{taken, next, stuffed, rest_none, puts_none, row_place, row_fits, row_puts, five_place, five_fits, five_puts, other_fits, other_puts}
 use Rattle.frame.proofs.maker.Maker.+put_row_put_stuff_bit.Goals.{put_stuff_bit-then-is_due, put_stuff_bit-else-is_due}

@@ -3,14 +3,14 @@
 # Run it at the top of the repository, with nothing else running: bench/lines.sh
 exec bench/measure.sh lines 'two makers' <<'END'
 // A million lines, and the sum that lines.rs prints of the same ones.
-use frame::Done;
-use frame::make_line;
-use std::error::AnyError;
+#![tactic(auto)]
 
-fn main(rt: LibcRuntime) -> Result<(), AnyError> {
+use frame::{Done, make_line};
+
+fn main(rt: HostRuntime) -> anyhow::Result<()> {
     let mut room = [0u8; 125];
     let sum = all(&mut room);
-    println!(rt, "{sum}")?;
+    println!(rt; "{sum}")?;
     Ok(())
 }
 

@@ -3,12 +3,12 @@
 # (reads.rs). Run it at the top of the repository, with nothing else running: bench/reads.sh
 exec bench/measure.sh reads 'bit by bit' <<'END'
 // A thousand lines made once and each read a thousand times, and the sum that reads.rs prints of the same ones.
-use frame::Done;
-use frame::make_line;
-use reader::read_line;
-use std::error::AnyError;
+#![tactic(auto)]
 
-fn main(rt: LibcRuntime) -> Result<(), AnyError> {
+use frame::{Done, make_line};
+use reader::read_line;
+
+fn main(rt: HostRuntime) -> anyhow::Result<()> {
     let mut lines = Vec::new(rt.alloc());
     let mut seed = 1u64;
     for _ in 0..1000u64 {
@@ -19,7 +19,7 @@ fn main(rt: LibcRuntime) -> Result<(), AnyError> {
     }
     let mut room = [0u8; 8];
     let sum = often(&lines, &mut room);
-    println!(rt, "{sum}")?;
+    println!(rt; "{sum}")?;
     Ok(())
 }
 

@@ -1,15 +1,15 @@
 -- What holds of bits, numbers and checks. Each is a statement, a type; src/laws.rt has a function for each, whose contract
 -- is that statement, so that the crate is accepted only with its proof. Assumes nothing.
 --
---   NumberOfBits     the number of the n lowest bits of x is x modulo 2 ^ n
---   BitsOfNumber     the bits of the number that bits write are these bits
---   XorTurns          adding numbers bit by bit without carrying turns the bits of one where the other has a high one
---   CrcOfOwnCheck   the check of a row with its own check's 15 bits behind it is 0
---   CrcLinear         turning bits of a row turns the check by the check of what is turned
---   CrcByBytes       from any check of 15 bits on, going byte by byte over a table gives what going bit by bit gives
---   CrcOfLowFront   a low bit in front of a row changes nothing
---   CrcOf5_1         the check of the frame 5 with the byte 1 is 11229
---   CrcOf0           the check of the frame 0 without bytes is 0
+--   NumberOfBits       the number of the n lowest bits of x is x modulo 2 ^ n
+--   BitsOfNumber       the bits of the number that bits write are these bits
+--   XorTurns           adding numbers bit by bit without carrying turns the bits of one where the other has a high one
+--   CrcOfOwnCheck      the check of a row with its own check's 15 bits behind it is 0
+--   CrcLinear          turning bits of a row turns the check by the check of what is turned
+--   CrcByBytes         from any check of 15 bits on, going byte by byte over a table gives what going bit by bit gives
+--   CrcOfLowFront      a low bit in front of a row changes nothing
+--   CrcOf5_1           the check of the frame 5 with the byte 1 is 11229
+--   CrcOf0             the check of the frame 0 without bytes is 0
 use Rattle.std.specs.Prelude.{◌≡◌, ℕ, ◌%◌, ◌^◌, ◌<◌, Bool, false, List, [], ◌∷◌, ◌++◌, length, bit_xor}
 use Rattle.bits.specs.Bits.{bits_of, bytes_bits, turned}
 use Rattle.bits.specs.Crc.{crc, crc_from, crc_bytes, covered}

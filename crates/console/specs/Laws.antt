@@ -1,25 +1,25 @@
 -- What holds of texts, refusals and sessions, in the words of whoever types them. Each is a statement, a type; src/laws.rt has a
 -- function for each, whose contract is that statement, so that the crate is accepted only with its proof. Assumes nothing.
 --
---   SpacedWords       a text's words with single spaces between them are the text
---   WordsSpaced       words without a space in them, with single spaces between them, are cut apart into these words
+--   SpacedWords        a text's words with single spaces between them are the text
+--   WordsSpaced        words without a space in them, with single spaces between them, are cut apart into these words
 --   Unspaced w         the word w has no space in it
 --   typed d ds         the command `letter` as it is typed, with the digits d for the name and the digits ds for the bytes
 --   IsNumeral w        the word w is a number in digits
---   BlankIsEmpty     only a line without any byte is blank
---   TypedIsRead      a letter that is typed, with any digits, is read as the letter of the numbers that they write
---   ReadWasTyped     what is read as a letter was typed so
---   LineWasTyped     only the text `line` is read as that command
+--   BlankIsEmpty       only a line without any byte is blank
+--   TypedIsRead        a letter that is typed, with any digits, is read as the letter of the numbers that they write
+--   ReadWasTyped       what is read as a letter was typed so
+--   LineWasTyped       only the text `line` is read as that command
 --   Good n bs          a letter of which a good frame can be made, and none of its bytes is above 255
---   GoodOrRefused    a letter is good if and only if it is not refused
---   InOrder n bs      what is refused of a letter, in the order of the questions
---   RefusedInOrder   a name that is too large is refused at 0; else too many bytes at their number; else the first byte
+--   GoodOrRefused      a letter is good if and only if it is not refused
+--   InOrder n bs       what is refused of a letter, in the order of the questions
+--   RefusedInOrder     a name that is too large is refused at 0; else too many bytes at their number; else the first byte
 --                      that is too large at its place
---   RefusedSame       what is refused changes nothing
+--   RefusedSame        what is refused changes nothing
 --   after_all rs k     what is kept after lines that were read as rs, where k was kept
 --   newer r o          the last good letter once r was read, where it was o
 --   last_good rs o     the last good letter once rs were read, where it was o
---   LineOfLast       after any lines, `line` is answered by the line of the last good letter among them, and refused if there
+--   LineOfLast         after any lines, `line` is answered by the line of the last good letter among them, and refused if there
 --                      was none
 --   Examples           some lines, and what they say or why they are refused
 use Rattle.std.specs.Prelude.{◌≡◌, ℕ, ◌<◌, ◌≤◌, true, List, [], ◌∷◌, ◌++◌, map, length, Some, None, codes, Option, ◌≢◌, slice_index}

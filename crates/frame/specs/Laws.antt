@@ -1,21 +1,21 @@
 -- What holds of fields, lines and answers. Each is a statement, a type; src/laws.rt has a function for each, whose contract is that
 -- statement, so that the crate is accepted only with its proof. Assumes nothing.
 --
---   FiveThenOther    wherever five like bits stand in a line before its end, the start counted, a bit of the other kind
+--   FiveThenOther      wherever five like bits stand in a line before its end, the start counted, a bit of the other kind
 --                      comes next, and it too stands before the end
---   NoSix             six like bits stand nowhere in a line before its end: behind any six there are fewer than seven bits
+--   NoSix              six like bits stand nowhere in a line before its end: behind any six there are fewer than seven bits
 --   Bounds id xs       how long the line of that frame is, at least and at most
---   LengthOfLine     a line has at least 38 bits and eight for each byte, and at most 45 and ten for each byte
---   LongestLine       the line of a good frame has at most 125 bits
+--   LengthOfLine       a line has at least 38 bits and eight for each byte, and at most 45 and ten for each byte
+--   LongestLine        the line of a good frame has at most 125 bits
 --   Unstuffed          the stuff bits taken out again give the row that they were put into
---   FieldsInLine     what stands in a line between its start and its end, with stuff bits taken out, is the frame's fields
+--   FieldsInLine       what stands in a line between its start and its end, with stuff bits taken out, is the frame's fields
 --   Parts id xs        the fields of that frame: what stands at which place
---   FieldsApart       of a frame's fields the first 11 bits are its identifier, the next 4 its length, each eight behind them a byte,
+--   FieldsApart        of a frame's fields the first 11 bits are its identifier, the next 4 its length, each eight behind them a byte,
 --                      in order, and the last 15 the check of all before them
---   OutcomesApart     answers with the same number and values are the same
---   LineOf0          the line of the frame 0 without bytes
---   LineOf5_1        the line of the frame 5 with the byte 1
---   LineOf1007       a line of 123 bits
+--   OutcomesApart      answers with the same number and values are the same
+--   LineOf0            the line of the frame 0 without bytes
+--   LineOf5_1          the line of the frame 5 with the byte 1
+--   LineOf1007         a line of 123 bits
 use Rattle.std.specs.Prelude.{◌≡◌, ℕ, ◌+◌, ◌-◌, ◌*◌, ◌<◌, ◌≤◌, Bool, true, false, not, List, [], ◌∷◌, ◌++◌, length, take, drop, replicate, codes, slice_index}
 use Rattle.bits.specs.Bits.{bits_of}
 use Rattle.bits.specs.Crc.{crc}

@@ -1,14 +1,14 @@
 -- A line heard bit by bit. Only the reader's own contracts cite this, and no promise of the crate does.
 -- Assumes nothing: these are definitions.
 --
---   row p              the bits of the fields that p holds
---   whole p            whether these are all bits of the fields
---   Stuffed d b n front   whatever bits come behind the bits d in the fields, their line begins with front, which ends with n bits
---                      like b, and goes on with stuff bits as from there
---   Hears u d b n t    the bits u begin a line: there are the bits d of the fields in them, with n bits like b at their end, and behind
---                      them t bits of the line's end; d begin the fields of some good frame, and of any whose line begins with u
---   Has u r            the reader r has heard just the bits u
---   After u b h        h is what the bit b makes of the bits u that were heard
+--   row p                the bits of the fields that p holds
+--   whole p              whether these are all bits of the fields
+--   Stuffed d b n front  whatever bits come behind the bits d in the fields, their line begins with front, which ends with n bits
+--                        like b, and goes on with stuff bits as from there
+--   Hears u d b n t      the bits u begin a line: there are the bits d of the fields in them, with n bits like b at their end, and behind
+--                        them t bits of the line's end; d begin the fields of some good frame, and of any whose line begins with u
+--   Has u r              the reader r has heard just the bits u
+--   After u b h          h is what the bit b makes of the bits u that were heard
 use Rattle.std.specs.Prelude.{◌≡◌, ℕ, ◌+◌, ◌*◌, Bool, true, List, [], ◌∷◌, ◌++◌, replicate, ◌==◌}
 use Rattle.bits.specs.Bits.{bits_of}
 use Rattle.frame.specs.Contents.{frame_data}

@@ -1,22 +1,22 @@
 -- What holds of reading. Each is a statement, a type; src/laws.rt has a function for each, whose contract is that statement, so that
 -- the crate is accepted only with its proof. Assumes nothing.
 --
---   OneReading        of two lines of good frames with something behind, which are the same, both are of one frame, with the same
---                      behind it
---   NoLineBeginsAnother   where a good frame's line begins with another's, they are one line of one frame
---   MadeIsRead       the line of a good frame, with anything behind it, is read as that frame, and ends where it ends
---   ReadWasMade      whatever is read is a good frame, and the bits up to the end that is read are its line
---   Found bs           what is found at the beginning of bs, and what it is for nothing to be found
---   FoundStands       a frame is found just if it is good and its line stands there, and nothing just if no such line does
---   SevenWithin       a frame whose line has seven high bits together before its end: it is read at the end, and not where these stand
---   LineOf5_1Read   the line of the frame 5 with the byte 1, read from its digits
---   NineBytes         bits whose length says nine, with a check that fits, are read as nothing
---   StillWithin       as long as a reader goes on, what it has heard begins the line of some good frame, and more of the line is to come
---   ReadThenMade     what the entry reads, the maker's entry makes again: the same number of bits, and the same bits
---   MadeThenRead     what the maker's entry makes, the reader's entry reads again: the same name, and the same bytes
---   First m xs         what it is for a number to be the first above m, and for none to be
---   FirstAbove        the place that is given is that of the first number that is too large
---   BytesInRow       where a letter stands in a row behind i others, its bytes are what is handed back of i
+--   OneReading           of two lines of good frames with something behind, which are the same, both are of one frame, with the same
+--                        behind it
+--   NoLineBeginsAnother  where a good frame's line begins with another's, they are one line of one frame
+--   MadeIsRead           the line of a good frame, with anything behind it, is read as that frame, and ends where it ends
+--   ReadWasMade          whatever is read is a good frame, and the bits up to the end that is read are its line
+--   Found bs             what is found at the beginning of bs, and what it is for nothing to be found
+--   FoundStands          a frame is found just if it is good and its line stands there, and nothing just if no such line does
+--   SevenWithin          a frame whose line has seven high bits together before its end: it is read at the end, and not where these stand
+--   LineOf5_1Read        the line of the frame 5 with the byte 1, read from its digits
+--   NineBytes            bits whose length says nine, with a check that fits, are read as nothing
+--   StillWithin          as long as a reader goes on, what it has heard begins the line of some good frame, and more of the line is to come
+--   ReadThenMade         what the entry reads, the maker's entry makes again: the same number of bits, and the same bits
+--   MadeThenRead         what the maker's entry makes, the reader's entry reads again: the same name, and the same bytes
+--   First m xs           what it is for a number to be the first above m, and for none to be
+--   FirstAbove           the place that is given is that of the first number that is too large
+--   BytesInRow           where a letter stands in a row behind i others, its bytes are what is handed back of i
 use Rattle.std.specs.Prelude.{◌≡◌, ℕ, ◌*◌, ◌<◌, ◌≤◌, Bool, true, List, [], ◌∷◌, ◌++◌, map, length, take, drop, Some, None, codes, ◌≢◌, slice_index}
 use Rattle.frame.specs.Entries.{made, make_answer, make_room, read}
 use Rattle.frame.specs.Good.{good_frame}

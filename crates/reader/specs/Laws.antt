@@ -3,6 +3,8 @@
 --
 --   OneReading           of two lines of good frames with something behind, which are the same, both are of one frame, with the same
 --                        behind it
+--   WideByte             why a good frame's bytes have to be bytes: of two frames that are good but for that, 0 with 0 and 0 with 256, both
+--                        have the same line, so that it would be read in two ways
 --   NoLineBeginsAnother  where a good frame's line begins with another's, they are one line of one frame
 --   MadeIsRead           the line of a good frame, with anything behind it, is read as that frame, and ends where it ends
 --   ReadWasMade          whatever is read is a good frame, and the bits up to the end that is read are its line
@@ -19,7 +21,7 @@
 --   BytesInRow           where a letter stands in a row behind i others, its bytes are what is handed back of i
 use Rattle.std.specs.Prelude.{◌≡◌, ℕ, ◌*◌, ◌<◌, ◌≤◌, Bool, true, List, [], ◌∷◌, ◌++◌, map, length, take, drop, Some, None, codes, ◌≢◌, slice_index}
 use Rattle.frame.specs.Entries.{made, make_answer, make_room, read}
-use Rattle.frame.specs.Good.{good_frame}
+use Rattle.frame.specs.Good.{good, good_frame}
 use Rattle.frame.specs.Line.{line}
 use Rattle.reader.specs.Entries.{ReadSays}
 use Rattle.reader.specs.Hearing.{Has}
@@ -35,6 +37,11 @@ abbrev pub OneReading : Type 0
 OneReading =
     (m n : ℕ) (xs ys : List ℕ) (u v : List Bool) → good_frame m xs ≡ true → good_frame n ys ≡ true → line m xs ++ u ≡ line n ys ++ v →
     (m ≡ n) × (xs ≡ ys) × (u ≡ v)
+
+pub record WideByte : Type 0 where
+  pub narrow : good 0 (0 ∷ []) ≡ true
+  pub wide : good 0 (256 ∷ []) ≡ true
+  pub same : line 0 (0 ∷ []) ≡ line 0 (256 ∷ [])
 
 abbrev pub NoLineBeginsAnother : Type 0
 NoLineBeginsAnother =

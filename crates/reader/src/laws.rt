@@ -1,8 +1,12 @@
 // The laws of reading: each function's contract is one of them, and the function does nothing.
-ghost use Rattle.reader.specs.Laws.{OneReading, NoLineBeginsAnother, MadeIsRead, ReadWasMade, FoundStands, SevenWithin, LineOf5_1Read, NineBytes, StillWithin, ReadThenMade, MadeThenRead, FirstAbove, BytesInRow};
+ghost use Rattle.reader.specs.Laws.{OneReading, WideByte, NoLineBeginsAnother, MadeIsRead, ReadWasMade, FoundStands, SevenWithin, LineOf5_1Read, NineBytes, StillWithin, ReadThenMade, MadeThenRead, FirstAbove, BytesInRow};
 
 pub fn one_reading()
     ensures { OneReading }
+{}
+
+pub fn wide_byte()
+    ensures { WideByte }
 {}
 
 pub fn no_line_begins_another()

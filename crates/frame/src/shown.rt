@@ -1,6 +1,5 @@
 // A line as text: a digit for each bit.
-ghost use Rattle.std.specs.Prelude.{◌≡◌, [], ◌∷◌, Some};
-ghost use Rattle.std.proofs.Math.Utf8.{encode};
+ghost use Rattle.std.specs.Prelude.{◌≡◌, [], ◌∷◌, Some, encode_utf8};
 ghost use Rattle.frame.specs.Contents.{line_bits};
 ghost use Rattle.frame.specs.Digits.{digit, digits};
 
@@ -25,7 +24,7 @@ impl fmt::Debug for Line {
 }
 
 fn digit_of(high: bool) -> char
-    ensures { encode result ≡ digit high ∷ [] }
+    ensures { encode_utf8 result ≡ digit high ∷ [] }
 {
     if high { '1' } else { '0' }
 }

@@ -8,6 +8,8 @@ mod lines;
 #[cfg(test)]
 mod readings;
 #[cfg(test)]
+mod rows;
+#[cfg(test)]
 mod second;
 #[cfg(test)]
 mod second_reader;

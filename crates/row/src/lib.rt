@@ -1,0 +1,8 @@
+// A row of at most so many values, in fixed memory.
+#![tactic(auto)]
+
+mod full;
+mod row;
+
+pub use full::Full;
+pub use row::Row;

@@ -1,13 +1,10 @@
 -- A shift by a place below 128 loses nothing; at any other place the number, being below 2 ^ 128, has a low bit.
-use Rattle.std.proofs.Common.{sym, ◌∙◌, lt_of_lt_of_le, pow_pos, pow_mono}
+use Rattle.std.proofs.Common.{sym, ◌∙◌, lt_of_lt_of_le, pow_mono}
 use Rattle.std.proofs.lemmas.Nat.{one_shl}
 use Rattle.std.proofs.lemmas.Bool.{le-ltb}
 use Rattle.bits.proofs.BitLaws.{bit_at_past}
 use Rattle.bits.specs.Bits.{bit_at}
 use Rattle.bits.proofs.numbers.bit_at.Goals as goal
-
-pub nonzero_div-result : goal.nonzero_div-result
-nonzero_div-result c = rw (one_shl c.args.place 128 c.if-place-lt-BITS.true) (pow_pos c.args.place)
 
 pub returns-then-place-lt-BITS : goal.returns-then-place-lt-BITS
 unfolding bit_at

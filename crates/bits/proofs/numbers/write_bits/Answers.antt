@@ -1,6 +1,5 @@
 -- Each turn fills one place more, in front, with the lowest bit of the rest.
 use Rattle.std.proofs.Common.{◌≡◌, ℕ, suc, ◌+◌, ◌-◌, ◌/◌, ◌%◌, ◌^◌, ◌<◌, Bool, eqb, List, ◌∷◌, length, drop, set, sym, ap, ◌∙◌, div-one, arith, shr-shr}
-use native.Mathlib.Nat.{sub-zero}
 use native.Mathlib.Numerals.{suc-eq-add-one}
 use Rattle.std.proofs.lemmas.List.{drop_all, drop-set}
 use Rattle.bits.specs.Bits.{bit_at, bits_of}
@@ -30,6 +29,3 @@ loop-i-preserved c =
     let more : n - (i - 1) ≡ suc (n - i) = omega arith in
     let behind : drop (i - 1 + 1) c.loop-i.out ≡ bits_of (n - i) c.args.x = rw at c.loop-i.invariant.0 in
     rw more (filled c.loop-i.out (i - 1) _ _ _ (omega arith) behind c.loop-i.invariant.1, halved _ _ _ c.loop-i.invariant.1)
-
-pub returns : goal.returns
-returns c = let first : c.loop-i.i ≡ 0 = omega arith in rw (first, sub-zero) at c.loop-i.invariant.0

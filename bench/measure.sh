@@ -14,8 +14,8 @@ rustc --edition 2024 -C opt-level=3 "$top/bench/$name.rs" -o "$work/rust"
 "$work/rust" | tee "$work/rust.txt"
 
 mkdir -p "$work/crates/timed/src"
-cp -r "$top/crates/bits" "$top/crates/frame" "$top/crates/reader" "$work/crates/"
-printf 'bits:\nframe: bits\nreader: bits frame\ntimed: frame reader anyhow\n' > "$work/crates.txt"
+cp -r "$top/crates/row" "$top/crates/bits" "$top/crates/frame" "$top/crates/reader" "$work/crates/"
+printf 'row:\nbits:\nframe: row bits\nreader: row bits frame\ntimed: frame reader anyhow\n' > "$work/crates.txt"
 cat > "$work/crates/timed/src/main.rt"
 (cd "$work/crates/timed" && rt run > "$work/sum.txt" 2> "$work/said.txt") || { cat "$work/said.txt"; exit 1; }
 # A program that does something else would be no measure.

@@ -13,7 +13,7 @@ use Rattle.console.proofs.Apart.{some_none}
 use Rattle.console.proofs.ReadingLaws.{mapped_some}
 use Rattle.console.specs.Laws.{GoodOrRefused, RefusedInOrder}
 use Rattle.console.specs.Refusals.{bad_byte, bad_letter}
-use Rattle.console.specs.declared.refusal.Refusal.TheVariants.{BadLetter}
+use Rattle.console.specs.declared.refusal.Refusal.TheVariants.{Name, Count, Byte}
 
 -- ---- one byte after the other
 
@@ -21,7 +21,7 @@ bad_byte-good : (i x : ℕ) (xs : List ℕ) → x ≤ 255 → bad_byte i (x ∷ 
 unfolding bad_byte
 bad_byte-good i x xs h = rw (le-ltb _ _ h, add-one)
 
-bad_byte_bad : (i x : ℕ) (xs : List ℕ) → 255 < x → bad_byte i (x ∷ xs) ≡ Some (BadLetter i)
+bad_byte_bad : (i x : ℕ) (xs : List ℕ) → 255 < x → bad_byte i (x ∷ xs) ≡ Some (Byte i)
 unfolding bad_byte
 bad_byte_bad i x xs h = rw (lt-ltb _ _ h)
 
@@ -38,7 +38,7 @@ module _ (bs : List ℕ) (i : ℕ) (so_far : GoodTo bs i) where
   unfolding GoodTo
   good_to_more h good = so_far ∙ at_drop_more (bad_byte i) bs i 0 h ∙ bad_byte-good i (get_or bs i 0) (drop (i + 1) bs) good
 
-  pub bad_at : i < length bs → 255 < get_or bs i 0 → bad_byte 0 bs ≡ Some (BadLetter i)
+  pub bad_at : i < length bs → 255 < get_or bs i 0 → bad_byte 0 bs ≡ Some (Byte i)
   unfolding GoodTo
   bad_at h bad = so_far ∙ at_drop_more (bad_byte i) bs i 0 h ∙ bad_byte_bad i (get_or bs i 0) (drop (i + 1) bs) bad
 
@@ -48,11 +48,11 @@ module _ (bs : List ℕ) (i : ℕ) (so_far : GoodTo bs i) where
 
 -- ---- the three questions in their order
 
-pub bad_name : (n : ℕ) (bs : List ℕ) → 2047 < n → bad_letter n bs ≡ Some (BadLetter 0)
+pub bad_name : (n : ℕ) (bs : List ℕ) → 2047 < n → bad_letter n bs ≡ Some Name
 unfolding bad_letter
 bad_name n bs h = rw (lt-ltb _ _ h)
 
-pub bad_length : (n : ℕ) (bs : List ℕ) → n ≤ 2047 → 8 < length bs → bad_letter n bs ≡ Some (BadLetter (length bs))
+pub bad_length : (n : ℕ) (bs : List ℕ) → n ≤ 2047 → 8 < length bs → bad_letter n bs ≡ Some (Count (length bs))
 unfolding bad_letter
 bad_length n bs h long = rw (le-ltb _ _ h, lt-ltb _ _ long)
 
@@ -83,13 +83,13 @@ cond_none false x o e = (refl, e)
 
 pub bad_byte_none : (i x : ℕ) (xs : List ℕ) → bad_byte i (x ∷ xs) ≡ None → (x ≤ 255) × (bad_byte (suc i) xs ≡ None)
 unfolding bad_byte
-bad_byte_none i x xs none = let parts = cond_none (ltb 255 x) (BadLetter i) (bad_byte (suc i) xs) none in (ltb-false 255 x parts.0, parts.1)
+bad_byte_none i x xs none = let parts = cond_none (ltb 255 x) (Byte i) (bad_byte (suc i) xs) none in (ltb-false 255 x parts.0, parts.1)
 
 pub bad_letter_none : (n : ℕ) (bs : List ℕ) → bad_letter n bs ≡ None → (n ≤ 2047) × (length bs ≤ 8) × (bad_byte 0 bs ≡ None)
 unfolding bad_letter
 bad_letter_none n bs none =
-    let name = cond_none (ltb 2047 n) (BadLetter 0) _ none in
-    let few = cond_none (ltb 8 (length bs)) (BadLetter (length bs)) (bad_byte 0 bs) name.1 in
+    let name = cond_none (ltb 2047 n) Name _ none in
+    let few = cond_none (ltb 8 (length bs)) (Count (length bs)) (bad_byte 0 bs) name.1 in
     (ltb-false 2047 n name.0, ltb-false 8 (length bs) few.0, few.1)
 
 bytes_good : (i : ℕ) (bs : List ℕ) → bad_byte i bs ≡ None → AllByRecursion (λ x. x ≤ 255) bs

@@ -24,7 +24,7 @@ use Rattle.console.specs.declared.command.Command.TheVariants.{Blank, Letter, Li
 use Rattle.console.specs.declared.numbers.Numbers.{Numbers}
 use Rattle.console.specs.declared.refusal.Refusal.{Refusal}
 use Rattle.console.specs.declared.refusal.Refusal.TheVariants as Text
-use Rattle.console.specs.declared.refusal.Refusal.TheVariants.{BadLetter}
+use Rattle.console.specs.declared.refusal.Refusal.TheVariants.{Name, Count, Byte}
 use Rattle.console.specs.declared.text.Answer.{Answer}
 use Rattle.console.specs.declared.text.Answer.TheVariants.{Nothing, Refused}
 
@@ -48,7 +48,7 @@ bad_byte-capped i [] = refl
 bad_byte-capped i (x ∷ xs) =
     let same = ltb_capped 255 x (omega arith) in
     let rest = bad_byte-capped (suc i) xs in
-    λ j. cond (same j) (Some (BadLetter i)) (rest j)
+    λ j. cond (same j) (Some (Byte i)) (rest j)
 
 bad_letter-capped : (n : ℕ) (bs : List ℕ) → bad_letter (capped n) (map capped bs) ≡ bad_letter n bs
 unfolding bad_letter
@@ -56,7 +56,7 @@ bad_letter-capped n bs =
     let name = ltb_capped 2047 n (omega arith) in
     let long = length-map bs capped in
     let rest = bad_byte-capped 0 bs in
-    λ j. cond (name j) (Some (BadLetter 0)) (cond (ltb 8 (long j)) (Some (BadLetter (long j))) (rest j))
+    λ j. cond (name j) (Some Name) (cond (ltb 8 (long j)) (Some (Count (long j))) (rest j))
 
 -- ---- good letters
 

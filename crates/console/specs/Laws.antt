@@ -32,7 +32,7 @@ use Rattle.console.specs.Refusals.{bad_letter}
 use Rattle.console.specs.Sessions.{State, no_letters, unless_refused, after}
 use Rattle.console.specs.Words.{words, spaced}
 use Rattle.console.specs.declared.refusal.Refusal.{Refusal}
-use Rattle.console.specs.declared.refusal.Refusal.TheVariants.{BadLetter, Unreadable}
+use Rattle.console.specs.declared.refusal.Refusal.TheVariants.{Name, Count, Byte, Unreadable}
 
 abbrev pub SpacedWords : Type 0
 SpacedWords = (t : List ℕ) → spaced (words t) ≡ t
@@ -71,9 +71,9 @@ abbrev pub GoodOrRefused : Type 0
 GoodOrRefused = (n : ℕ) (bs : List ℕ) → (Good n bs → bad_letter n bs ≡ None) × (bad_letter n bs ≡ None → Good n bs)
 
 pub record InOrder (n : ℕ) (bs : List ℕ) : Type 0 where
-  pub name : 2047 < n → bad_letter n bs ≡ Some (BadLetter 0)
-  pub many : n ≤ 2047 → 8 < length bs → bad_letter n bs ≡ Some (BadLetter (length bs))
-  pub byte : (i : ℕ) → n ≤ 2047 → length bs ≤ 8 → i < length bs → 255 < slice_index bs i → ((j : ℕ) → j < i → slice_index bs j ≤ 255) → bad_letter n bs ≡ Some (BadLetter i)
+  pub name : 2047 < n → bad_letter n bs ≡ Some Name
+  pub many : n ≤ 2047 → 8 < length bs → bad_letter n bs ≡ Some (Count (length bs))
+  pub byte : (i : ℕ) → n ≤ 2047 → length bs ≤ 8 → i < length bs → 255 < slice_index bs i → ((j : ℕ) → j < i → slice_index bs j ≤ 255) → bad_letter n bs ≡ Some (Byte i)
 
 abbrev pub RefusedInOrder : Type 0
 RefusedInOrder = (n : ℕ) (bs : List ℕ) → InOrder n bs
@@ -110,9 +110,9 @@ pub record Examples : Type 0 where
   pub line : reading (codes "line") ≡ current_line
   pub line_space : reading (codes "line ") ≡ unreadable
   pub line_name : reading (codes "line 5") ≡ unreadable
-  pub large_name : answer 7 (reading (codes "letter 2048: 256")) no_letters ≡ refused (BadLetter 0)
-  pub nine_bytes : answer 7 (reading (codes "letter 2047: 1 2 3 4 5 6 7 8 256")) no_letters ≡ refused (BadLetter 9)
-  pub large_byte : answer 7 (reading (codes "letter 5: 1 256 257")) no_letters ≡ refused (BadLetter 1)
+  pub large_name : answer 7 (reading (codes "letter 2048: 256")) no_letters ≡ refused Name
+  pub nine_bytes : answer 7 (reading (codes "letter 2047: 1 2 3 4 5 6 7 8 256")) no_letters ≡ refused (Count 9)
+  pub large_byte : answer 7 (reading (codes "letter 5: 1 256 257")) no_letters ≡ refused (Byte 1)
   pub no_command : answer 7 (reading (codes "lettre 5: 1")) no_letters ≡ refused (Unreadable 7)
   pub line_at_first : answer 7 (reading (codes "line")) no_letters ≡ refused (Unreadable 7)
   pub line_of_5 :

@@ -11,24 +11,28 @@ use Rattle.std.specs.Prelude.{◌≡◌, ℕ, suc, cond, List, [], ◌∷◌, le
 use Rattle.frame.specs.Contents.{contents}
 use Rattle.frame.specs.declared.frame.Frame.{Frame}
 use Rattle.console.specs.declared.refusal.Refusal.{Refusal}
-use Rattle.console.specs.declared.refusal.Refusal.TheVariants.{BadLetter, Unreadable}
+use Rattle.console.specs.declared.refusal.Refusal.TheVariants.{Name, Count, Byte, Unreadable}
 
 unfoldable pub bad_byte : ℕ → List ℕ → Option Refusal
 bad_byte i [] = None
-bad_byte i (x ∷ xs) = cond (nat_lt 255 x) (Some (BadLetter i)) (bad_byte (suc i) xs)
+bad_byte i (x ∷ xs) = cond (nat_lt 255 x) (Some (Byte i)) (bad_byte (suc i) xs)
 
 unfoldable pub bad_letter : ℕ → List ℕ → Option Refusal
 bad_letter n bs =
-    cond (nat_lt 2047 n) (Some (BadLetter 0)) (cond (nat_lt 8 (length bs)) (Some (BadLetter (length bs))) (bad_byte 0 bs))
+    cond (nat_lt 2047 n) (Some Name) (cond (nat_lt 8 (length bs)) (Some (Count (length bs))) (bad_byte 0 bs))
 
 abbrev pub Judged : ℕ → List ℕ → Result Frame Refusal → Type 0
 Judged n bs (Ok f) = (bad_letter n bs ≡ None) × (contents f ≡ (n, bs))
 Judged n bs (Err x) = bad_letter n bs ≡ Some x
 
 abbrev pub refusal_number : Refusal → ℕ
-refusal_number (BadLetter place) = 1
+refusal_number Name = 1
+refusal_number (Count n) = 1
+refusal_number (Byte i) = 1
 refusal_number (Unreadable line) = 4
 
 abbrev pub refusal_place : Refusal → ℕ
-refusal_place (BadLetter place) = place
+refusal_place Name = 0
+refusal_place (Count n) = n
+refusal_place (Byte i) = i
 refusal_place (Unreadable line) = line

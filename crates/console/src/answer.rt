@@ -64,7 +64,7 @@ impl Session {
         ensures { reply result ≡ line_reply place (current_letter (state self.now)) }
     {
         match self.current_letter() {
-            Some(frame) => Answer::Line(Line::of(&frame)),
+            Some(frame) => Answer::Line(Line::from(&frame)),
             None => Answer::Refused(Refusal::Unreadable(place)),
         }
     }

@@ -17,11 +17,11 @@ pub fn judge(name: u64, bytes: &Numbers) -> Result<Frame, Refusal>
     ensures { (ns : List ℕ) → Holds bytes.now ns → Judged name ns result }
 {
     if name > LARGEST_NAME {
-        return Err(Refusal::BadLetter(0));
+        return Err(Refusal::Name);
     }
     let count = bytes.count;
     if count > MOST_BYTES {
-        return Err(Refusal::BadLetter(count as u64));
+        return Err(Refusal::Count(count as u64));
     }
     judge_bytes(name, &bytes.first[0..count])
 }
@@ -35,7 +35,7 @@ fn judge_bytes(name: u64, bytes: &[u64]) -> Result<Frame, Refusal>
     let mut data = [0u8; MOST_BYTES];
     for (i, byte) in bytes.iter().enumerate() {
         if *byte > LARGEST_BYTE {
-            return Err(Refusal::BadLetter(i as u64));
+            return Err(Refusal::Byte(i as u64));
         }
         data[i] = *byte as u8;
     }

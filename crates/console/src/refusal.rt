@@ -4,8 +4,12 @@ ghost use Rattle.console.specs.Refusals.{refusal_number, refusal_place};
 
 #[derive(Clone, Copy, Debug, PartialEq, Eq)]
 pub enum Refusal {
-    // A letter that isn't good: 0 for its name, else how many bytes it has, else the place of the first byte above 255.
-    BadLetter(u64),
+    // A letter whose name is above 2047.
+    Name,
+    // A letter with more than eight bytes: how many it has.
+    Count(u64),
+    // A letter with a byte above 255: the place of the first such byte.
+    Byte(u64),
     // A text that can't be read, or asks for what isn't there: the place of its line.
     Unreadable(u64),
 }
@@ -16,7 +20,7 @@ impl Refusal {
         ensures { result ≡ refusal_number self }
     {
         match self {
-            Refusal::BadLetter(_) => 1,
+            Refusal::Name | Refusal::Count(_) | Refusal::Byte(_) => 1,
             Refusal::Unreadable(_) => 4,
         }
     }
@@ -25,8 +29,8 @@ impl Refusal {
         ensures { result ≡ refusal_place self }
     {
         match self {
-            Refusal::BadLetter(place) => place,
-            Refusal::Unreadable(line) => line,
+            Refusal::Name => 0,
+            Refusal::Count(place) | Refusal::Byte(place) | Refusal::Unreadable(place) => place,
         }
     }
 }

@@ -1,7 +1,7 @@
 -- What holds of a frame's fields: as one number they grow field by field, each joined to it as its lowest bits (`joined_all`), and each
 -- stands at its place (`fields_apart`). Rests on the laws of bits. Assumes nothing else.
 use Rattle.std.proofs.Common.{◌≡◌, ℕ, zero, suc, ◌+◌, ◌*◌, ◌^◌, ◌<◌, ◌≤◌, Bool, List, [], ◌∷◌, ◌++◌, length, get_or, take, drop, sym, refl, ap, ◌∙◌, ap₂, lt_of_lt_of_le, mul-le-mul_right, add-mul, arith, pow_mono, pow-add}
-use Rattle.std.proofs.lemmas.List.{append_assoc, append-nil, drop_at, drop-drop, length-take, take_all, take_at, take_more}
+use Rattle.std.proofs.lemmas.List.{append_assoc, append-nil, drop_at, drop-drop, take_all, take_at, take_more}
 use Rattle.bits.proofs.BitLaws.{bits_of_join, length-bits_of}
 use Rattle.bits.specs.Bits.{bits_of, bytes_bits}
 use Rattle.bits.specs.Crc.{crc, covered}
@@ -23,7 +23,7 @@ bytes_bits-++ (x ∷ xs) ys = ap (λ r. bits_of 8 x ++ r) (bytes_bits-++ xs ys) 
 
 -- a frame has at most eight bytes
 pub few_bytes : (f : Frame) → length (frame_data f) ≤ 8
-few_bytes f = omega (arith, length-take f.len f.bytes, f.good.1)
+few_bytes f = f.good.1
 
 -- the number n has the fields up to the first i bytes joined
 abbrev pub Joined : ℕ → List ℕ → ℕ → ℕ → Type 0

@@ -1,7 +1,6 @@
 -- What a good frame is, part by part (`good_parts`, `good_from`), and what it is for numbers to be bytes.
 -- Rests on nothing but the definitions.
-use Rattle.std.proofs.Common.{◌≡◌, ℕ, ◌+◌, ◌<◌, ◌≤◌, true, ltb, leb, List, [], ◌∷◌, ◌++◌, length, get_or, take, sym, refl, subst}
-use Rattle.std.proofs.lemmas.List.{take_more}
+use Rattle.std.proofs.Common.{◌≡◌, ℕ, suc, arith, ◌<◌, ◌≤◌, true, ltb, leb, List, [], ◌∷◌, length, get_or, refl}
 use Rattle.std.proofs.lemmas.Bool.{and_from, and_parts, leb-true, le-leb, lt-ltb, ltb-true}
 use Rattle.frame.specs.Good.{all_bytes, good, good_frame}
 
@@ -32,12 +31,7 @@ bytes_first x xs e =
 pub bytes_cons : (x : ℕ) (xs : List ℕ) → x < 256 → all_bytes xs ≡ true → all_bytes (x ∷ xs) ≡ true
 bytes_cons x xs small bytes = and_from (ltb x 256) (all_bytes xs) (lt-ltb x 256 small) bytes
 
-pub bytes_push : (xs : List ℕ) (x : ℕ) → all_bytes xs ≡ true → x < 256 → all_bytes (xs ++ (x ∷ [])) ≡ true
-bytes_push [] x bytes small = bytes_cons x [] small refl
-bytes_push (y ∷ xs) x bytes small =
-    let (first, rest) = bytes_first y xs bytes in
-    bytes_cons y (xs ++ (x ∷ [])) first (bytes_push xs x rest small)
-
--- a loop's step, past the byte at i
-pub bytes_more : (xs : List ℕ) (i : ℕ) → i < length xs → get_or xs i 0 < 256 → all_bytes (take i xs) ≡ true → all_bytes (take (i + 1) xs) ≡ true
-bytes_more xs i h small bytes = subst (λ ys. all_bytes ys ≡ true) (sym (take_more xs i 0 h)) (bytes_push (take i xs) (get_or xs i 0) bytes small)
+-- numbers each of which is a byte
+pub all_bytes_from : (xs : List ℕ) → ((i : ℕ) → i < length xs → get_or xs i 0 < 256) → all_bytes xs ≡ true
+all_bytes_from [] each = refl
+all_bytes_from (x ∷ xs) each = bytes_cons x xs (each 0 (omega arith)) (all_bytes_from xs (λ i h. each (suc i) (omega arith)))

@@ -31,13 +31,6 @@ unfolding run differ
 run_like true n = refl
 run_like false n = refl
 
-pub run_first : (b c : Bool) → run b 0 c ≡ 1
-unfolding run differ
-run_first true true = refl
-run_first true false = refl
-run_first false true = refl
-run_first false false = refl
-
 pub due_is : (n : ℕ) → due n ≡ true → n ≡ 5
 due_is n e = true-eqb n 5 (sym e)
 

@@ -7,6 +7,7 @@
 --   read n k e         a line was read: the letter's name n, how many bytes it has, k, and where its line ends, e
 --   nothing            no line stands there
 --   refused k          refused, by the number k
+--   refusal_number r   the number of the refusal r
 --   make_answer n bs k what making the line of the letter with the name n and the bytes bs answers, for a room of k places
 --   make_room n bs r   what a room that held r holds afterwards
 use Rattle.std.specs.Prelude.{ℕ, cond, ◌&&◌, List, [], ◌∷◌, ◌++◌, map, length, drop, nat_le}
@@ -15,6 +16,8 @@ use Rattle.frame.specs.Good.{good}
 use Rattle.frame.specs.Line.{line}
 use Rattle.frame.specs.declared.done.Done.{Done}
 use Rattle.frame.specs.declared.done.Done.TheVariants.{Made, Short, Read, Nothing, Refused}
+use Rattle.frame.specs.declared.refusal.Refusal.{Refusal}
+use Rattle.frame.specs.declared.refusal.Refusal.TheVariants.{BadLetter, BadBit, BadRoom}
 
 abbrev pub made : ℕ → ℕ × List ℕ
 made n = (0, n ∷ [])
@@ -30,6 +33,11 @@ nothing = (3, [])
 
 abbrev pub refused : ℕ → ℕ × List ℕ
 refused k = (4, k ∷ [])
+
+abbrev pub refusal_number : Refusal → ℕ
+refusal_number BadLetter = 1
+refusal_number BadBit = 2
+refusal_number BadRoom = 3
 
 abbrev pub outcome : Done → ℕ × List ℕ
 outcome (Made n) = made n

@@ -1,4 +1,5 @@
-// What the entries answer: making a line, and reading one, which stands in a crate above this one.
+// What the entries answer: making a line, and reading one, which stands in a crate above this one. It is no `Result`, and a refusal is a
+// number here, since the entries answer callers in C, who know these answers by their names and numbers. Inside, refusals are `Refusal`.
 
 #[derive(Clone, Copy, Debug, PartialEq, Eq)]
 pub enum Done {

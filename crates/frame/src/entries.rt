@@ -6,9 +6,7 @@ ghost use Rattle.frame.specs.Entries.{outcome, make_answer, make_room};
 use crate::done::Done;
 use crate::frame::Frame;
 use crate::line::Line;
-
-// The number of a letter that isn't good.
-const BAD_LETTER: u64 = 1;
+use crate::refusal::Refusal;
 
 // Writes the line of the letter with this name and these bytes to the front of `room`, as numbers 0 and 1.
 pub fn make_line(name: u64, bytes: &[u8], room: &mut [u8]) -> Done
@@ -16,9 +14,9 @@ pub fn make_line(name: u64, bytes: &[u8], room: &mut [u8]) -> Done
     ensures room { room.new ≡ make_room name bytes.now room.old }
 {
     let Some(frame) = Frame::new(name, bytes) else {
-        return Done::Refused(BAD_LETTER);
+        return Done::from(Refusal::BadLetter);
     };
-    let line = Line::of(&frame);
+    let line = Line::from(&frame);
     let bits = line.bits();
     let len = bits.len();
     if len > room.len() {
@@ -28,7 +26,8 @@ pub fn make_line(name: u64, bytes: &[u8], room: &mut [u8]) -> Done
     Done::Made(len as u64)
 }
 
-// Writes `line` to the front of `room`, as numbers 0 and 1.
+// Writes `line` to the front of `room`, as numbers 0 and 1. It goes by places, since of a slice that is written through an adapter
+// of `iter_mut`, as `zip`, only the length is known: that was tried, and the proof didn't close.
 fn write_front(line: &[bool], room: &mut [u8])
     requires { length line.now ≤ length room.old }
     ensures { room.new ≡ map bit line.now ++ drop (length line.now) room.old }

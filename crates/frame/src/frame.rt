@@ -1,17 +1,21 @@
 // A good frame: no other can be made. The type stands alone here, since the definitions that name it can't be imported where
 // it is declared: frames.rt has what it does.
-ghost use Rattle.std.specs.Prelude.{◌≡◌, ◌<◌, ◌≤◌, true, take};
+ghost use Rattle.std.specs.Prelude.{◌≡◌, ◌<◌, ◌≤◌, true, length};
 ghost use Rattle.frame.specs.Good.{all_bytes};
+
+use row::Row;
+
+// The largest identifier.
+pub const LARGEST_ID: u64 = 2047;
 
 // The most bytes that a frame carries.
 pub const MOST_BYTES: usize = 8;
 
-#[derive(Clone, Copy)]
+// Frames are alike if their identifiers and their bytes are.
+#[derive(Clone, Copy, Debug, PartialEq, Eq)]
 pub struct Frame {
     pub(crate) id: u16,
-    pub(crate) len: u8,
-    // The frame's bytes in front; what stands behind them means nothing.
-    pub(crate) bytes: [u8; MOST_BYTES],
-    ghost good: { (id < 2048) × (len ≤ 8) },
-    ghost narrow: { all_bytes (take len bytes) ≡ true },
+    pub(crate) bytes: Row<u8, MOST_BYTES>,
+    ghost good: { (id < 2048) × (length bytes.items ≤ 8) },
+    ghost narrow: { all_bytes bytes.items ≡ true },
 }

@@ -1,34 +1,23 @@
-// Frames made, asked and compared.
+// Frames made and asked.
 ghost use Rattle.std.specs.Prelude.{◌≡◌, ◌↔◌, if◌then◌else◌, Some, None, IsTrue};
 ghost use Rattle.std.specs.Option.{option_map};
-ghost use Rattle.std.specs.Cmp.{and_equiv, and_per, nat_eq_equiv, on_equiv, on_per, partial_equiv_from_equiv};
-ghost use Rattle.std.specs.Cmp.Lexicographic.{lists_equiv};
 ghost use Rattle.frame.specs.Contents.{contents, frame_data, frame_eq};
 ghost use Rattle.frame.specs.Good.{good};
 
-use crate::frame::{Frame, MOST_BYTES};
-use std::fmt;
-
-// The largest identifier.
-const LARGEST_ID: u64 = 2047;
+use crate::frame::{Frame, LARGEST_ID};
+use row::Row;
 
 impl Frame {
     // The frame with this identifier and these bytes, if it is good.
     pub fn new(id: u64, bytes: &[u8]) -> Option<Self>
         ensures { option_map contents result ≡ (if good id bytes.now then Some (id, bytes.now) else None) }
     {
-        let len = bytes.len();
-        if id > LARGEST_ID || len > MOST_BYTES {
+        if id > LARGEST_ID {
             return None;
-        }
-        let mut room = [0u8; MOST_BYTES];
-        for (place, byte) in bytes.iter().enumerate() {
-            room[place] = *byte;
         }
         Some(Frame {
             id: id as u16,
-            len: len as u8,
-            bytes: room,
+            bytes: Row::try_from(bytes).ok()?,
         })
     }
 
@@ -41,32 +30,14 @@ impl Frame {
     pub fn data(&self) -> &[u8]
         ensures { result.now ≡ frame_data self.now }
     {
-        &self.bytes[0..self.len as usize]
+        self.bytes.as_slice()
     }
 }
 
-// Frames are alike if their identifiers and their bytes are.
-impl PartialEq for Frame {
-    ghost eq = { frame_eq };
-
-    ghost laws = { and_per (on_per frame_data (partial_equiv_from_equiv (lists_equiv nat_eq_equiv))) (on_per (λ f. f.id) (partial_equiv_from_equiv nat_eq_equiv)) };
-
-    fn eq(&self, other: &Frame) -> bool
-        ensures computed { result ≡ frame_eq self.now other.now }
-        ensures decided { IsTrue result ↔ (contents self.now ≡ contents other.now) }
-    {
-        self.data() == other.data() && self.id == other.id
-    }
-}
-
-impl Eq for Frame {
-    ghost laws = { and_equiv (on_equiv frame_data (lists_equiv nat_eq_equiv)) (on_equiv (λ f. f.id) nat_eq_equiv) };
-}
-
-impl fmt::Debug for Frame {
-    fn fmt<W: fmt::Write>(&self, f: &mut fmt::Formatter<W>) -> fmt::Result {
-        let id = self.id;
-        let data = self.data();
-        write!(f, "Frame({id}, {data:?})")
-    }
+// What `==` decides of frames: whether their identifiers and their bytes are the same.
+pub fn is_same_frame(a: &Frame, b: &Frame) -> bool
+    ensures computed { result ≡ frame_eq a.now b.now }
+    ensures decided { IsTrue result ↔ (contents a.now ≡ contents b.now) }
+{
+    a == b
 }

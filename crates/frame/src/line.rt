@@ -1,14 +1,15 @@
 // A line: what goes over the bus for a frame. The type stands alone here, since the definitions that name it can't be imported
 // where it is declared: lines.rt has what it does, and maker.rt how it is made.
-ghost use Rattle.std.specs.Prelude.{◌≤◌};
+ghost use Rattle.std.specs.Prelude.{◌≤◌, length};
+
+use row::Row;
 
 // No frame's line is longer.
 pub const LONGEST_LINE: usize = 125;
 
-#[derive(Clone, Copy)]
+// Lines are alike if their bits are.
+#[derive(Clone, Copy, Debug, PartialEq, Eq)]
 pub struct Line {
-    // The line in front; what stands behind it means nothing.
-    pub(crate) bits: [bool; LONGEST_LINE],
-    pub(crate) len: usize,
-    ghost fits: { len ≤ 125 },
+    pub(crate) bits: Row<bool, LONGEST_LINE>,
+    ghost fits: { length bits.items ≤ 125 },
 }

@@ -1,21 +1,18 @@
 // The maker of a line. A maker of rows puts the fields' bits, and a maker of stuff bits puts one where one is due; each hands on
 // to the other. What they share stands behind one reference, so that a compiler can make one loop of the two.
-ghost use Rattle.std.specs.Prelude.{◌≡◌, ◌+◌, ◌≤◌, not, length, min, take};
+ghost use Rattle.std.specs.Prelude.{◌≡◌, ◌+◌, ◌≤◌, ◌++◌, not, length};
 ghost use Rattle.frame.specs.Contents.{frame_data, line_bits};
 ghost use Rattle.frame.specs.Line.{start, end, line};
-ghost use Rattle.frame.specs.Making.{Fits, Fresh, Puts, Ready, rest, rest_due, with_bit};
-ghost use Rattle.frame.specs.Stuffing.{due, run};
+ghost use Rattle.frame.specs.Making.{Fits, HasPut, Puts, Ready, Started, rest, rest_due};
 
-use crate::fields::fields_of;
+use crate::fields::Fields;
 use crate::frame::Frame;
 use crate::line::{LONGEST_LINE, Line};
-use bits::bit_at;
+use crate::run::Run;
+use row::Row;
 
 // The bit that a line begins with, a low one.
 pub const START: bool = false;
-
-// Behind so many like bits one of the other kind is put in.
-const LIKE_BITS: u8 = 5;
 
 // How many high bits a line ends with.
 pub const END: usize = 7;
@@ -23,52 +20,36 @@ pub const END: usize = 7;
 // A line that is being made.
 #[derive(Drop)]
 struct Maker {
-    // The bits of the fields, as one number: those still to put are its lowest.
-    fields: u128,
-    left: u32,
-    // The bit that was put last, and how many like it stand there.
-    last: bool,
-    run: u8,
-    // The bits that were put, in front. Behind them all is high, as a line's end has it.
-    bits: [bool; LONGEST_LINE],
-    at: usize,
+    // The bits of the fields that are still to put.
+    fields: Fields,
+    // How the bits that were put end.
+    run: Run,
+    bits: Row<bool, LONGEST_LINE>,
 }
 
-impl Line {
-    // The line of a frame.
-    pub fn of(frame: &Frame) -> Self
-        ensures { line_bits result ≡ line frame.now.id (frame_data frame.now) }
-    {
+// The line of a frame.
+impl From<&Frame> for Line {
+    ghost from_gives = { λ frame l. line_bits l ≡ line frame.now.id (frame_data frame.now) };
+
+    fn from(frame: &Frame) -> Self {
         let mut maker = Maker::new(frame);
-        maker.put_start();
         maker.put_row();
         maker.finish()
     }
 }
 
 impl Maker {
-    // A maker that has the line of `frame` to make, and has put no bit yet.
+    // A maker that has the line of `frame` to make, and has put its start, which counts as any other bit.
     fn new(frame: &Frame) -> Self
-        ensures { Fresh frame.now result }
+        ensures { Started frame.now result }
     {
-        let fields = fields_of(frame);
+        let mut bits = Row::new();
+        bits.push(START).unwrap();
         Maker {
-            fields: fields.number,
-            left: fields.width,
-            // Where no bit is counted yet, this means nothing.
-            last: true,
-            run: 0,
-            bits: [true; LONGEST_LINE],
-            at: 0,
+            fields: Fields::from(frame),
+            run: Run::new(START),
+            bits,
         }
-    }
-
-    // Puts the bit that a line begins with, which counts as any other.
-    fn put_start(&mut self)
-        requires { Ready self.old }
-        ensures { self.new ≡ with_bit start self.old }
-    {
-        self.put(START);
     }
 
     // Puts what is left of the fields.
@@ -77,11 +58,10 @@ impl Maker {
         requires { Fits 4 self.old (rest self.old) }
         ensures { Puts self.old (rest self.old) self.new }
     {
-        if self.left == 0 {
+        let Some(bit) = self.fields.next() else {
             return;
-        }
-        self.left -= 1;
-        self.put(bit_at(self.fields, self.left));
+        };
+        self.put(bit);
         self.put_stuff_bit();
     }
 
@@ -91,7 +71,7 @@ impl Maker {
         requires { Fits 5 self.old (rest_due self.old) }
         ensures { Puts self.old (rest_due self.old) self.new }
     {
-        if is_due(self.run) {
+        if self.run.is_due() {
             self.put_other();
         }
         self.put_row();
@@ -100,51 +80,26 @@ impl Maker {
     // Puts a bit of the other kind than the last one.
     fn put_other(&mut self)
         requires { Ready self.old }
-        ensures { self.new ≡ with_bit (not self.old.last) self.old }
+        ensures { HasPut (not self.old.run.bit) self.old self.new }
     {
-        self.put(!self.last);
+        self.put(self.run.stuff_bit());
     }
 
     // Puts one bit, and counts how many like it stand together now.
     fn put(&mut self, bit: bool)
         requires { Ready self.old }
-        ensures { self.new ≡ with_bit bit self.old }
+        ensures { HasPut bit self.old self.new }
     {
-        self.run = like_bits(self.last, self.run, bit);
-        self.last = bit;
-        self.bits[self.at] = bit;
-        self.at += 1;
+        self.run = self.run.with(bit);
+        self.bits.push(bit).unwrap();
     }
 
     // The line: what was put, and behind it high bits for its end.
-    fn finish(&self) -> Line
-        requires { self.now.at + length end ≤ 125 }
-        ensures { line_bits result ≡ take (self.now.at + length end) self.now.bits }
+    fn finish(&mut self) -> Line
+        requires { length self.old.bits.items + length end ≤ 125 }
+        ensures { line_bits result ≡ self.old.bits.items ++ end }
     {
-        let bits = self.bits;
-        Line {
-            bits,
-            len: self.at + END,
-        }
-    }
-}
-
-// Whether a stuff bit comes next, where `run` like bits stand at the end.
-pub fn is_due(run: u8) -> bool
-    ensures { result ≡ due run }
-{
-    run == LIKE_BITS
-}
-
-// How many like bits stand at a row's end with `bit`, where `count` bits like `last` stood there before it. It counts no further
-// than a byte does; in a line no more than five stand together.
-pub fn like_bits(last: bool, count: u8, bit: bool) -> u8
-    ensures counted { count ≤ 5 → result ≡ run last count bit }
-    ensures capped { result ≡ min (run last count bit) 255 }
-{
-    if last == bit {
-        count.saturating_add(1)
-    } else {
-        1
+        self.bits.extend_from_slice(&[true; END]).unwrap();
+        Line { bits: self.bits }
     }
 }

@@ -17,12 +17,6 @@ impl fmt::Display for Line {
     }
 }
 
-impl fmt::Debug for Line {
-    fn fmt<W: fmt::Write>(&self, f: &mut fmt::Formatter<W>) -> fmt::Result {
-        write!(f, "Line({self})")
-    }
-}
-
 fn digit_of(high: bool) -> char
     ensures { encode_utf8 result ≡ digit high ∷ [] }
 {

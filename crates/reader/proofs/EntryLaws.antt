@@ -1,16 +1,17 @@
 -- What holds of the numbers that the entry reads: where none of them is above 1 they are bits (`bits_small`), and a line stands at the beginning
 -- of numbers if it does so of their bits (`reads_standing`, `standing_reads`). Rests on the laws of lists and of reading. Assumes nothing else.
-use Rattle.std.proofs.Common.{◌≡◌, ℕ, zero, suc, ◌≤◌, Bool, true, false, cond, ◌&&◌, ltb, leb, ◌⊎◌, List, [], ◌∷◌, ◌++◌, map, length, get_or, take, drop, is_some, Some, None, Option, sym, refl, ap, ◌∙◌, subst, ap₂, inl, inr, arith}
+use Rattle.std.proofs.Common.{◌≡◌, ℕ, zero, suc, ◌<◌, ◌≤◌, Bool, true, false, cond, ◌&&◌, leb, ◌⊎◌, List, [], ◌∷◌, ◌++◌, map, length, get_or, take, drop, is_some, Some, None, Option, sym, refl, ap, ◌∙◌, subst, ap₂, inl, inr, arith}
 use Rattle.std.proofs.lemmas.List.{length-map, map-append, take_at}
-use Rattle.std.proofs.lemmas.Bool.{and_from, and_parts, both_ways, cond-false, cond-true, eq-eqb, le-leb, ltb-false}
+use Rattle.std.proofs.lemmas.Bool.{and_from, and_parts, cond-false, cond-true, eq-eqb, le-leb}
 use Rattle.bits.specs.Bits.{bit, bit_at}
 use Rattle.frame.specs.Entries.{made, make_answer, make_room, read}
 use Rattle.frame.specs.Good.{all_bytes, good, good_frame}
 use Rattle.frame.specs.Line.{line}
+use Rattle.reader.proofs.PlaceLaws.{none_above}
 use Rattle.reader.proofs.ReadingLaws.{nothing_standing, one_reading, standing_found}
 use Rattle.reader.specs.Entries.{ReadBy, ReadFrame, ReadNothing, ReadSays, Reads, read_answer, read_refusal, read_room}
 use Rattle.reader.specs.Laws.{ReadThenMade, MadeThenRead}
-use Rattle.reader.specs.Places.{above_from, first_above}
+use Rattle.reader.specs.Places.{first_above}
 use Rattle.reader.specs.Reading.{Stands, found}
 use Rattle.reader.specs.Seen.{lowest}
 
@@ -27,15 +28,9 @@ unfolding bit bit_at
 lowest-bit true = refl
 lowest-bit false = refl
 
-pub bits_small : (i : ℕ) (bs : List ℕ) → is_some (above_from i 1 bs) ≡ false → map bit (map lowest bs) ≡ bs
-unfolding above_from
-bits_small i [] e = refl
-bits_small i (x ∷ bs) e = go (ltb 1 x) refl e (bits_small (suc i) bs)
-  where
-    go : (t : Bool) → ltb 1 x ≡ t → is_some (cond t (Some i) (above_from (suc i) 1 bs)) ≡ false
-        → (is_some (above_from (suc i) 1 bs) ≡ false → map bit (map lowest bs) ≡ bs) → bit (lowest x) ∷ map bit (map lowest bs) ≡ x ∷ bs
-    go true is e rest = absurd (both_ways true e refl)
-    go false is e rest = ap₂ ◌∷◌ (bit_small x (ltb-false 1 x is)) (rest e)
+bits_small : (bs : List ℕ) → ((i : ℕ) → i < length bs → get_or bs i 0 ≤ 1) → map bit (map lowest bs) ≡ bs
+bits_small [] small = refl
+bits_small (x ∷ bs) small = ap₂ ◌∷◌ (bit_small x (small 0 (omega arith))) (bits_small bs (λ i h. small (suc i) (omega arith)))
 
 bits_back : (bs : List Bool) → map lowest (map bit bs) ≡ bs
 bits_back [] = refl
@@ -61,27 +56,34 @@ module _ (id : ℕ) (xs : List ℕ) (bs : List ℕ) where
   }
 
 -- what isn't refused
-pub not-refused : (bs room : List ℕ) → is_some (first_above 1 bs) ≡ false → length room ≡ 8 → read_refusal bs room ≡ 0
+not-refused : (bs room : List ℕ) → is_some (first_above 1 bs) ≡ false → length room ≡ 8 → read_refusal bs room ≡ 0
 not-refused bs room small eight = cond-false (is_some (first_above 1 bs)) 2 _ small ∙ ap (λ t. cond t 0 3) (eq-eqb (length room) 8 eight)
+
+all_bits : (bs room : List ℕ) → read_refusal bs room ≡ 0 → first_above 1 bs ≡ None
+all_bits bs room accepted = go (first_above 1 bs) _ accepted
+  where
+    go : (o : Option ℕ) (n : ℕ) → cond (is_some o) 2 n ≡ 0 → o ≡ None
+    go None n e = refl
+    go (Some i) n e = absurd (omega arith)
 
 -- what was found, as it is answered and written
 pub handed_over :
-    (bs r : List ℕ) (f : Option (ℕ × List ℕ × ℕ)) (o : ℕ × List ℕ) (s : List ℕ) → f ≡ found (map lowest bs) → is_some (first_above 1 bs) ≡ false → o ≡ read_answer f →
-    s ≡ read_room f r → ReadFrame bs r o s ⊎ ReadNothing bs r o s
-handed_over bs r None o s is small answer room =
-    inr record { none = λ id xs reads. nothing_standing (map lowest bs) (sym is) id xs (standing_reads id xs bs reads); answer = answer; same = room }
-handed_over bs r (Some f) o s is small answer room =
-    let (stands, ends) = standing_found f.0 f.1 (map lowest bs) f.2 (sym is) in
-    inl record {
-      id = f.0;
-      bytes = f.1;
-      stands = reads_standing f.0 f.1 bs (bits_small 0 bs small) stands;
-      answer = answer ∙ ap (λ e. read f.0 (length f.1) e) ends;
-      written = room;
-    }
-
-pub not-refused_says : (bs r : List ℕ) (o : ℕ × List ℕ) (s : List ℕ) → read_refusal bs r ≡ 0 → ReadFrame bs r o s ⊎ ReadNothing bs r o s → ReadSays bs r o s
-not-refused_says bs r o s none so = subst (λ n. ReadBy n bs r o s) (sym none) so
+    (bs r : List ℕ) (f : Option (ℕ × List ℕ × ℕ)) (o : ℕ × List ℕ) (s : List ℕ) → read_refusal bs r ≡ 0 → f ≡ found (map lowest bs) → o ≡ read_answer f →
+    s ≡ read_room f r → ReadSays bs r o s
+handed_over bs r f o s accepted is answer room = subst (λ k. ReadBy k bs r o s) (sym accepted) (either f is answer room)
+  where
+    either : (f : Option (ℕ × List ℕ × ℕ)) → f ≡ found (map lowest bs) → o ≡ read_answer f → s ≡ read_room f r → ReadFrame bs r o s ⊎ ReadNothing bs r o s
+    either None is answer room =
+        inr record { none = λ id xs reads. nothing_standing (map lowest bs) (sym is) id xs (standing_reads id xs bs reads); answer = answer; same = room }
+    either (Some f) is answer room =
+        let (stands, ends) = standing_found f.0 f.1 (map lowest bs) f.2 (sym is) in
+        inl record {
+          id = f.0;
+          bytes = f.1;
+          stands = reads_standing f.0 f.1 bs (bits_small bs (none_above 1 bs (all_bits bs r accepted))) stands;
+          answer = answer ∙ ap (λ e. read f.0 (length f.1) e) ends;
+          written = room;
+        }
 
 -- ---- laws
 

@@ -5,7 +5,7 @@ use Rattle.std.proofs.Common.{◌≡◌, ℕ, zero, suc, ◌+◌, ◌-◌, ◌*�
 use Rattle.std.proofs.lemmas.List.{append_assoc, append_cancel_left, append-nil, length-append, length-replicate, nil_from_length, replicate-append-replicate, replicate_more}
 use Rattle.std.proofs.lemmas.Bool.{both_ways, cases_lt, eq-eqb, eqb-false, eqb-true}
 use Rattle.bits.proofs.BitLaws.{length-bits_of}
-use Rattle.frame.proofs.LineLaws.{length_fields, not_other, same_first}
+use Rattle.frame.proofs.LineLaws.{length_fields, same_first}
 use Rattle.frame.specs.Fields.{fields}
 use Rattle.frame.specs.Good.{good_frame}
 use Rattle.frame.specs.Line.{line, start, end}
@@ -121,7 +121,7 @@ hears_start d none = record {
   only = λ id xs w stands. (fields id xs, ap (λ l. l ++ fields id xs) (sym none));
 }
 
-module _ (u d : List Bool) (b : Bool) (n t : ℕ) (heard : Hears u d b n t) where
+module _ {u d : List Bool} {b : Bool} {n t : ℕ} (heard : Hears u d b n t) where
   -- a line that begins with u, behind what is settled of it
   pub behind_front : (id : ℕ) (xs : List ℕ) (w : List Bool) → Stands id xs (u ++ w) → Stands id xs (heard.front ++ (replicate t true ++ w))
   behind_front id xs w stands = record {
@@ -145,20 +145,24 @@ module _ (u d : List Bool) (b : Bool) (n t : ℕ) (heard : Hears u d b n t) wher
       let so = goes_on d b n heard.front heard.stuffed id xs rest (replicate t true ++ []) e at in
       omega (arith, few, ap length so, length-append (replicate t true) [], length-replicate t true, length-append (stuff_due b n rest) (end ++ at.behind), length-append end at.behind)
 
-  module _ (five : due n ≡ true) (none : t ≡ 0) where
-    pub stuff-never : (id : ℕ) (xs : List ℕ) (w : List Bool) → Stands id xs (u ++ (b ∷ w)) → ⊥
-    stuff-never id xs w stands =
-        let (rest, e) = heard.only id xs (b ∷ w) stands in
-        let at = subst (λ k. Stands id xs (heard.front ++ (replicate k true ++ (b ∷ w)))) none (behind_front id xs (b ∷ w) stands) in
-        not_other b (stuff-bit d b n heard.front heard.stuffed id xs rest b w five e at)
+  -- where the end hasn't begun, the bits are the front alone
+  at_front : t ≡ 0 → (c : Bool) → u ++ (c ∷ []) ≡ (heard.front ++ (c ∷ [])) ++ []
+  at_front none c = ap (λ l. l ++ (c ∷ [])) (heard.these ∙ ap (λ k. heard.front ++ replicate k true) none ∙ append-nil heard.front) ∙ sym (append-nil (heard.front ++ (c ∷ [])))
 
-    pub stuff-heard : Hears (u ++ (not b ∷ [])) d (not b) 1 0
-    stuff-heard = record {
-      front = heard.front ++ (not b ∷ []);
-      these = ap (λ l. l ++ (not b ∷ [])) (heard.these ∙ ap (λ k. heard.front ++ replicate k true) none ∙ append-nil heard.front) ∙ sym (append-nil (heard.front ++ (not b ∷ [])));
-      stuffed = stuffed_due d b n heard.front heard.stuffed five;
+  module _ (five : due n ≡ true) (none : t ≡ 0) (c : Bool) where
+    pub stuff-never : (c ≡ not b → ⊥) → (id : ℕ) (xs : List ℕ) (w : List Bool) → Stands id xs (u ++ (c ∷ w)) → ⊥
+    stuff-never other id xs w stands =
+        let (rest, e) = heard.only id xs (c ∷ w) stands in
+        let at = subst (λ k. Stands id xs (heard.front ++ (replicate k true ++ (c ∷ w)))) none (behind_front id xs (c ∷ w) stands) in
+        other (stuff-bit d b n heard.front heard.stuffed id xs rest c w five e at)
+
+    pub stuff-heard : c ≡ not b → Hears (u ++ (c ∷ [])) d c 1 0
+    stuff-heard is = record {
+      front = heard.front ++ (c ∷ []);
+      these = at_front none c;
+      stuffed = subst (λ x. Stuffed d x 1 (heard.front ++ (x ∷ []))) (sym is) (stuffed_due d b n heard.front heard.stuffed five);
       begun = heard.begun;
-      only = only_more (not b) d (λ id xs w stands. heard.only id xs (not b ∷ w) stands);
+      only = only_more c d (λ id xs w stands. heard.only id xs (c ∷ w) stands);
     }
 
   module _ (other : due n ≡ false) (none : t ≡ 0) (short : length d < 30 + 8 * length_in d) (c : Bool) where
@@ -180,7 +184,7 @@ module _ (u d : List Bool) (b : Bool) (n t : ℕ) (heard : Hears u d b n t) wher
     pub field-heard : Begins (d ++ (c ∷ [])) → Hears (u ++ (c ∷ [])) (d ++ (c ∷ [])) c (run b n c) 0
     field-heard begun = record {
       front = heard.front ++ (c ∷ []);
-      these = ap (λ l. l ++ (c ∷ [])) (heard.these ∙ ap (λ k. heard.front ++ replicate k true) none ∙ append-nil heard.front) ∙ sym (append-nil (heard.front ++ (c ∷ [])));
+      these = at_front none c;
       stuffed = stuffed_more d b n heard.front heard.stuffed c other;
       begun = begun;
       only = only_more c (d ++ (c ∷ [])) field-only;
@@ -222,11 +226,11 @@ short_is p short = omega (arith, eqb-false p.count (30 + 8 * p.len) short, lengt
 
 -- where a stuff bit is due, or the fields aren't whole, the end hasn't begun
 module _ (r : Reader) where
-  pub due_no_end : due r.run ≡ true → r.end ≡ 0
+  pub due_no_end : due r.run.count ≡ true → r.end ≡ 0
   due_no_end five = either (cases_lt 0 r.end)
     where
       either : (0 < r.end) ⊎ (r.end ≤ 0) → r.end ≡ 0
-      either (inl begun) = absurd (both_ways (due r.run) (r.ending begun).1 five)
+      either (inl begun) = absurd (both_ways (due r.run.count) (r.ending begun).1 five)
       either (inr none) = omega arith
 
   pub short_no_end : whole r.fields ≡ false → r.end ≡ 0
@@ -244,16 +248,16 @@ still_within u r has = either (cases_lt 0 r.end)
     so : Begins (row r.fields)
     so = has.begun
 
-    line-is : line so.id so.bytes ≡ has.front ++ (stuff_due r.last r.run so.rest ++ end)
-    line-is = line_from (row r.fields) r.last r.run has.front has.stuffed so.id so.bytes so.rest so.these
+    line-is : line so.id so.bytes ≡ has.front ++ (stuff_due r.run.bit r.run.count so.rest ++ end)
+    line-is = line_from (row r.fields) r.run.bit r.run.count has.front has.stuffed so.id so.bytes so.rest so.these
 
     either : (0 < r.end) ⊎ (r.end ≤ 0)
         → (n : ℕ) × (xs : List ℕ) × (w : List Bool) × (good_frame n xs ≡ true) × (line n xs ≡ u ++ w) × (w ≡ [] → ⊥)
     either (inr none) =
-        let rest : List Bool = stuff_due r.last r.run so.rest ++ end in
+        let rest : List Bool = stuff_due r.run.bit r.run.count so.rest ++ end in
         let zero-end : r.end ≡ 0 = omega (arith, none) in
         let before : u ≡ has.front = has.these ∙ ap (λ k. has.front ++ replicate k true) zero-end ∙ append-nil has.front in
-        (so.id, so.bytes, rest, so.is_good, line-is ∙ ap (λ l. l ++ rest) (sym before), λ no_more. omega (arith, ap length no_more, length-append (stuff_due r.last r.run so.rest) end))
+        (so.id, so.bytes, rest, so.is_good, line-is ∙ ap (λ l. l ++ rest) (sym before), λ no_more. omega (arith, ap length no_more, length-append (stuff_due r.run.bit r.run.count so.rest) end))
     either (inl begun) =
         let (count, other) = r.ending begun in
         let all = whole_is r.fields (eq-eqb r.fields.count (30 + 8 * r.fields.len) count) in
@@ -265,7 +269,7 @@ still_within u r has = either (cases_lt 0 r.end)
           so.bytes,
           left,
           so.is_good,
-          line-is ∙ ap₂ (λ t l. has.front ++ (cond t (not r.last ∷ stuff (not r.last) 1 l) (stuff r.last r.run l) ++ end)) other no_more
+          line-is ∙ ap₂ (λ t l. has.front ++ (cond t (not r.run.bit ∷ stuff (not r.run.bit) 1 l) (stuff r.run.bit r.run.count l) ++ end)) other no_more
               ∙ ap (λ l. has.front ++ l) ends ∙ sym (append_assoc has.front (replicate r.end true) left) ∙ ap (λ l. l ++ left) (sym has.these),
           λ none. omega (arith, ap length none, length-replicate (7 - r.end) true, r.counted.2),
         )

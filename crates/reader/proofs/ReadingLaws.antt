@@ -197,13 +197,12 @@ unfolding heard_to
 heard_none bits = refl
 
 -- no line stands where there is no start
-pub no_start : (bits : List ℕ) → (length bits ≡ 0 → ⊥) → lowest (get_or bits 0 0) ≡ not start → None ≡ found (map lowest bits)
+pub no_start : (b : Bool) (bs : List Bool) → b ≡ not start → None ≡ found (b ∷ bs)
 unfolding line
-no_start [] some high = absurd (some refl)
-no_start (x ∷ bits) some high = sym (found_none (map lowest (x ∷ bits)) never)
+no_start b bs high = sym (found_none (b ∷ bs) never)
   where
-    never : (id : ℕ) (xs : List ℕ) → Stands id xs (lowest x ∷ map lowest bits) → ⊥
-    never id xs stands = both_ways (lowest x) (same_first (lowest x) start (map lowest bits) _ stands.these) high
+    never : (id : ℕ) (xs : List ℕ) → Stands id xs (b ∷ bs) → ⊥
+    never id xs stands = both_ways b (same_first b start bs _ stands.these) high
 
 pub no_bits : (bits : List ℕ) → length bits ≡ 0 → None ≡ found (map lowest bits)
 no_bits [] none = sym (found_none [] never)
@@ -211,7 +210,3 @@ no_bits [] none = sym (found_none [] never)
     never : (id : ℕ) (xs : List ℕ) → Stands id xs [] → ⊥
     never id xs stands = omega (arith, ap length stands.these, length-append (line id xs) stands.behind, length-line id xs)
 no_bits (x ∷ bits) none = absurd (omega arith)
-
-pub start_first : (bits : List ℕ) → (length bits ≡ 0 → ⊥) → lowest (get_or bits 0 0) ≡ start → start ∷ map lowest (drop 1 bits) ≡ map lowest bits
-start_first [] some low = absurd (some refl)
-start_first (x ∷ bits) some low = ap (λ b. b ∷ map lowest bits) (sym low)

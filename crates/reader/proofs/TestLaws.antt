@@ -1,7 +1,8 @@
 -- Bits that the code finds like or unlike, and as many bits as are counted. Rests on the definitions alone.
-use Rattle.std.proofs.Common.{◌≡◌, Bool, true, false, not, length, sym, refl}
+use Rattle.std.proofs.Common.{◌≡◌, Bool, true, false, not, length, sym, refl, ◌∙◌}
 use mathlib.Core.Bool.{beq}
 use Rattle.bits.proofs.BitLaws.{length-bits_of}
+use Rattle.frame.proofs.LineLaws.{not_other}
 use Rattle.reader.specs.Hearing.{row}
 use Rattle.reader.specs.declared.prefix.Prefix.{Prefix}
 
@@ -16,6 +17,9 @@ unlike true true e = sym e
 unlike true false e = refl
 unlike false true e = refl
 unlike false false e = e
+
+pub differs : (a b : Bool) → not (beq a b) ≡ true → a ≡ b → ⊥
+differs a b e same = not_other b (sym same ∙ unlike a b e)
 
 pub count_is : (p : Prefix) → length (row p) ≡ p.count
 count_is p = length-bits_of p.count p.number

@@ -9,7 +9,8 @@
 --                        them t bits of the line's end; d begin the fields of some good frame, and of any whose line begins with u
 --   Has u r              the reader r has heard just the bits u
 --   After u b h          h is what the bit b makes of the bits u that were heard
-use Rattle.std.specs.Prelude.{◌≡◌, ℕ, ◌+◌, ◌*◌, Bool, true, List, [], ◌∷◌, ◌++◌, replicate, ◌==◌}
+--   Goes r b h           h is what the bit b makes of whatever bits the reader r has heard
+use Rattle.std.specs.Prelude.{◌≡◌, ℕ, ◌+◌, ◌*◌, Bool, true, List, [], ◌∷◌, ◌++◌, replicate, Some, None, Option, ◌==◌}
 use Rattle.bits.specs.Bits.{bits_of}
 use Rattle.frame.specs.Contents.{frame_data}
 use Rattle.frame.specs.Fields.{fields}
@@ -18,7 +19,7 @@ use Rattle.frame.specs.Stuffing.{stuff, stuff_due}
 use Rattle.reader.specs.Beginning.{Begins}
 use Rattle.reader.specs.Reading.{Stands}
 use Rattle.reader.specs.declared.hearing.Heard.{Heard}
-use Rattle.reader.specs.declared.hearing.Heard.TheVariants.{Within, Line, Broken}
+use Rattle.reader.specs.declared.hearing.Heard.TheVariants.{Within, Line}
 use Rattle.reader.specs.declared.prefix.Prefix.{Prefix}
 use Rattle.reader.specs.declared.reader.Reader.{Reader}
 
@@ -39,9 +40,12 @@ pub record Hears (u d : List Bool) (b : Bool) (n t : ℕ) : Type 0 where
   pub only : (id : ℕ) (xs : List ℕ) (w : List Bool) → Stands id xs (u ++ w) → (rest : List Bool) × (fields id xs ≡ d ++ rest)
 
 abbrev pub Has : List Bool → Reader → Type 0
-Has u r = Hears u (row r.fields) r.last r.run r.end
+Has u r = Hears u (row r.fields) r.run.bit r.run.count r.end
 
-abbrev pub After : List Bool → Bool → Heard → Type 0
-After u b (Within r) = Has (u ++ (b ∷ [])) r
-After u b (Line f) = u ++ (b ∷ []) ≡ line f.id (frame_data f)
-After u b Broken = (id : ℕ) (xs : List ℕ) (w : List Bool) → Stands id xs (u ++ (b ∷ w)) → ⊥
+abbrev pub After : List Bool → Bool → Option Heard → Type 0
+After u b (Some (Within r)) = Has (u ++ (b ∷ [])) r
+After u b (Some (Line f)) = u ++ (b ∷ []) ≡ line f.id (frame_data f)
+After u b None = (id : ℕ) (xs : List ℕ) (w : List Bool) → Stands id xs (u ++ (b ∷ w)) → ⊥
+
+abbrev pub Goes : Reader → Bool → Option Heard → Type 0
+Goes r b h = (u : List Bool) → Has u r → After u b h

@@ -6,10 +6,5 @@ ghost use Rattle.reader.specs.Places.{first_above};
 pub fn place_above(most: u8, numbers: &[u8]) -> Option<usize>
     ensures { result ≡ first_above most numbers.now }
 {
-    for (place, number) in numbers.iter().enumerate() {
-        if *number > most {
-            return Some(place);
-        }
-    }
-    None
+    numbers.iter().position(|number| *number > most)
 }

@@ -4,16 +4,16 @@ ghost use Rattle.std.specs.Prelude.{◌≡◌, ◌+◌, ◌*◌, ◌<◌, ◌≤
 ghost use Rattle.frame.specs.Stuffing.{due};
 
 use crate::prefix::Prefix;
+use frame::Run;
 
 #[derive(Clone, Copy)]
 pub struct Reader {
     // The fields so far, with stuff bits taken out.
     pub(crate) fields: Prefix,
-    // The bit that was read last of the fields, and how many like it stand there.
-    pub(crate) last: bool,
-    pub(crate) run: u8,
+    // How the fields end as they were heard, with stuff bits.
+    pub(crate) run: Run,
     // How many bits of the line's end were read.
     pub(crate) end: usize,
-    ghost counted: { (1 ≤ run) × (run ≤ 5) × (end ≤ 6) },
-    ghost ending: { (0 < end → (fields.count ≡ 30 + 8 * fields.len) × (due run ≡ false)) },
+    ghost counted: { (1 ≤ run.count) × (run.count ≤ 5) × (end ≤ 6) },
+    ghost ending: { (0 < end → (fields.count ≡ 30 + 8 * fields.len) × (due run.count ≡ false)) },
 }

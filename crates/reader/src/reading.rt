@@ -8,41 +8,44 @@ use crate::hearing::Heard;
 use crate::reader::Reader;
 use frame::{Frame, START};
 
-// What stands at the beginning of bits.
+// What stands at the beginning of bits: the line of this frame, and where the line ends.
 #[derive(Clone, Copy, Debug, PartialEq, Eq)]
-pub enum Reading {
-    // The line of this frame; where it ends.
-    Frame(Frame, usize),
-    // No good frame's line.
-    Nothing,
+pub struct Reading {
+    pub frame: Frame,
+    pub end: usize,
 }
 
 impl Reading {
-    // What stands at the beginning of `bits`. Each bit is the lowest of a number: so 0 and 1 are a low and a high one, and so are the
-    // digits `0` and `1` of a text.
-    pub fn of(bits: &[u8]) -> Self
+    // What stands at the beginning of `bits`, if a good frame's line does. Each bit is the lowest of a number: so 0 and 1 are a low
+    // and a high one, and so are the digits `0` and `1` of a text.
+    pub fn of(bits: &[u8]) -> Option<Self>
         ensures { seen result ≡ found (map lowest bits.now) }
     {
-        if bits.is_empty() || is_high(bits[0]) != START {
-            return Reading::Nothing;
+        let (first, rest) = bits.split_first()?;
+        if is_high(*first) != START {
+            return None;
         }
-        read_behind_start(&bits[1..])
+        read_behind_start(rest)
     }
 }
 
 // What stands at the beginning of `bits`, if a start comes before them.
-fn read_behind_start(bits: &[u8]) -> Reading
+fn read_behind_start(bits: &[u8]) -> Option<Reading>
     ensures { seen result ≡ found (start ∷ map lowest bits.now) }
 {
     let mut reader = Reader::new();
     for (place, bit) in bits.iter().enumerate() {
-        match reader.hear(is_high(*bit)) {
+        match reader.hear(is_high(*bit))? {
             Heard::Within(next) => reader = next,
-            Heard::Line(frame) => return Reading::Frame(frame, place + 2),
-            Heard::Broken => return Reading::Nothing,
+            Heard::Line(frame) => {
+                return Some(Reading {
+                    frame,
+                    end: place + 2,
+                });
+            }
         }
     }
-    Reading::Nothing
+    None
 }
 
 // The lowest bit of a number.

@@ -67,10 +67,7 @@ fn rows_are_written(rt: HostRuntime) -> Result<(), Fail> {
 #[test]
 fn rows_are_read(rt: HostRuntime) -> Result<(), Fail> {
     for (number, row) in ROWS {
-        let mut bits = Vec::new(rt.alloc());
-        for digit in row.bytes() {
-            bits.push(digit == b'1')?;
-        }
+        let bits: Vec<bool> = row.bytes().map(|digit| digit == b'1').collect(rt.alloc())?;
         let lowest = match bits.len() {
             width @ 0..=63 => number % (1 << width),
             _ => number,

@@ -113,13 +113,9 @@ impl Lots {
 fn room_after(heap: Global, line: &[bool], len: usize) -> Result<Vec<u8>, AllocError> {
     let mut room = Vec::new(heap);
     if line.len() <= len {
-        for bit in line.iter() {
-            room.push(u8::from(*bit))?;
-        }
+        room.extend(line.iter().map(|bit| u8::from(*bit)))?;
     }
-    for _ in room.len()..len {
-        room.push(UNTOUCHED)?;
-    }
+    room.resize(len, UNTOUCHED)?;
     Ok(room)
 }
 
@@ -142,12 +138,9 @@ fn makes(heap: Global, line: &[bool], name: u64, bytes: &[u8]) -> Result<bool, A
     Ok(is_made(make_line(name, bytes, &mut room), line) && is_left(heap, line, &room)?)
 }
 
-// Whether `Line::of` has these bits for it.
+// Whether its `Line` has these bits.
 fn has_bits(line: &[bool], name: u64, bytes: &[u8]) -> bool {
-    match Frame::new(name, bytes) {
-        Some(frame) => Line::of(&frame).bits() == line,
-        None => false,
-    }
+    Frame::new(name, bytes).is_some_and(|frame| Line::from(&frame).bits() == line)
 }
 
 fn check_both(
@@ -173,10 +166,7 @@ fn check_both(
 fn known_lines(rt: HostRuntime) -> Result<(), Fail> {
     let heap = rt.alloc();
     for (name, bytes, digits) in KNOWN {
-        let mut line = Vec::new(heap);
-        for digit in digits.bytes() {
-            line.push(digit == b'1')?;
-        }
+        let line: Vec<bool> = digits.bytes().map(|digit| digit == b'1').collect(heap)?;
         check_both(&rt, heap, &line, name, bytes)?;
         assert!(rt;
             second::line(heap, name, bytes)? == line,

@@ -24,11 +24,9 @@ const SEVEN_WITHIN: (u64, &[u8]) = (15, &[]);
 
 // Each bit as a number, added to `even`.
 fn numbers(heap: Global, bits: &[bool], even: u8) -> Result<Vec<u8>, AllocError> {
-    let mut numbers = Vec::new(heap);
-    for bit in bits.iter() {
-        numbers.push(even.wrapping_add(u8::from(*bit)))?;
-    }
-    Ok(numbers)
+    bits.iter()
+        .map(|bit| even.wrapping_add(u8::from(*bit)))
+        .collect(heap)
 }
 
 fn push_drawn(bits: &mut Vec<bool>, lots: &mut Lots, count: u64) -> Result<(), AllocError> {
@@ -58,15 +56,13 @@ fn room_after(found: &Option<Found>) -> [u8; ROOM] {
 }
 
 // What was read, in the second reader's terms.
-fn found_in(heap: Global, reading: Reading) -> Result<Option<Found>, AllocError> {
-    match reading {
-        Reading::Frame(frame, end) => {
-            let name = u64::from(frame.id());
-            let bytes = frame.data().to_vec(heap)?;
-            Ok(Some(Found { name, bytes, end }))
-        }
-        Reading::Nothing => Ok(None),
-    }
+fn found_in(heap: Global, reading: Option<Reading>) -> Result<Option<Found>, AllocError> {
+    let Some(Reading { frame, end }) = reading else {
+        return Ok(None);
+    };
+    let name = u64::from(frame.id());
+    let bytes = frame.data().to_vec(heap)?;
+    Ok(Some(Found { name, bytes, end }))
 }
 
 // Both readers read the same of these bits.
@@ -188,21 +184,14 @@ fn rooms_that_are_not_eight_bytes(rt: HostRuntime) -> Result<(), Fail> {
 
 // A row of letters that all say the same length; each other number is its place, so that a part tells where it begins.
 fn letters(heap: Global, len: u16, count: u16) -> Result<Vec<u16>, AllocError> {
-    let mut row = Vec::new(heap);
-    for place in 0..len {
-        row.push(if place % 10 == 1 { count } else { place })?;
-    }
-    Ok(row)
+    (0..len)
+        .map(|place| if place % 10 == 1 { count } else { place })
+        .collect(heap)
 }
 
 // The numbers of the letter at that place, if the row has one whole.
 fn letter_at(row: &[u16], i: u64) -> Option<&[u16]> {
-    for (place, letter) in row.chunks_exact(10).enumerate() {
-        if place as u64 == i {
-            return Some(letter);
-        }
-    }
-    None
+    row.chunks_exact(10).nth(usize::try_from(i).ok()?)
 }
 
 // Whether `bytes` are those of the letter at that place.

@@ -9,9 +9,7 @@ use std::alloc::{AllocError, Global};
 // The line of the frame with this name and these bytes.
 pub fn line(heap: Global, name: u64, bytes: &[u8]) -> Result<Vec<bool>, AllocError> {
     let mut bits = filled(heap, &fields(heap, name, bytes)?)?;
-    for _ in 0..7 {
-        bits.push(true)?;
-    }
+    bits.extend_from_slice(&[true; 7])?;
     Ok(bits)
 }
 

@@ -45,18 +45,15 @@ fn taken_out(heap: Global, bits: &[bool]) -> Result<Vec<bool>, AllocError> {
 
 // The bytes that a row begins with, so many of them, as far as there are bits for them.
 fn first_bytes(heap: Global, row: &[bool], count: u64) -> Result<Vec<u8>, AllocError> {
-    let mut bytes = Vec::new(heap);
-    for bits in row.chunks_exact(8).take(count as usize) {
-        bytes.push((number(bits) % 256) as u8)?;
-    }
-    Ok(bytes)
+    row.chunks_exact(8)
+        .take(count as usize)
+        .map(|bits| (number(bits) % 256) as u8)
+        .collect(heap)
 }
 
 // The number that these bits write, the highest first.
 fn number(bits: &[bool]) -> u64 {
-    let mut number: u64 = 0;
-    for bit in bits.iter() {
-        number = number.wrapping_mul(2).wrapping_add(u64::from(*bit));
-    }
-    number
+    bits.iter().fold(0, |number: u64, bit| {
+        number.wrapping_mul(2).wrapping_add(u64::from(*bit))
+    })
 }

@@ -4,14 +4,14 @@ use native.Mathlib.Nat.{sub-zero}
 use Rattle.std.proofs.lemmas.List.{take_all}
 use Rattle.console.proofs.RefusalLaws.{bad_name, bad_length}
 use Rattle.console.specs.Refusals.{Judged}
-use Rattle.console.specs.declared.refusal.Refusal.TheVariants.{BadLetter}
+use Rattle.console.specs.declared.refusal.Refusal.TheVariants.{Count}
 use Rattle.console.proofs.judge.judge.Goals as goal
 
 pub returns-then-name-gt-LARGEST_NAME : goal.returns-then-name-gt-LARGEST_NAME
 returns-then-name-gt-LARGEST_NAME c = λ ns holds. bad_name _ ns (omega arith)
 
 pub returns-then-count-gt-MOST_BYTES : goal.returns-then-count-gt-MOST_BYTES
-returns-then-count-gt-MOST_BYTES c = λ ns holds. bad_length _ ns (omega arith) (omega arith) ∙ ap (λ n. Some (BadLetter n)) (sym holds.count)
+returns-then-count-gt-MOST_BYTES c = λ ns holds. bad_length _ ns (omega arith) (omega arith) ∙ ap (λ n. Some (Count n)) (sym holds.count)
 
 pub returns : goal.returns
 returns c = λ ns holds.

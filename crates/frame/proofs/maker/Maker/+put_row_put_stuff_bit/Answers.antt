@@ -1,57 +1,55 @@
 -- A bit is put, and then the rest by the other maker, which has one bit or one turn fewer.
-use Rattle.std.proofs.Common.{◌≡◌, length, sym, ap, ◌∙◌, subst, arith, rules}
-use Rattle.frame.specs.Making.{rest, rest_due, with_bit, Puts, Fits}
-use Rattle.frame.proofs.MakerLaws.{taken, next, stuffed, rest_none, puts_none, row_place, row_fits, row_puts, five_place, five_fits, five_puts, other_fits, other_puts}
+use Rattle.std.proofs.Common.{◌≡◌, ◌∷◌, length, sym, refl, ap, ◌∙◌, subst, arith}
+use Rattle.bits.specs.Bits.{bits_of}
+use Rattle.frame.specs.Making.{left, rest, HasPut, Puts, Fits}
+use Rattle.frame.specs.declared.maker.Maker.{Maker}
+use Rattle.frame.proofs.MakerLaws.{puts_none, row_none, row_place, row_fits, row_puts, five_fits, five_puts, other_fits, other_puts}
 use Rattle.frame.proofs.maker.Maker.+put_row_put_stuff_bit.Goals.{put_stuff_bit-then-is_due, put_stuff_bit-else-is_due}
 use Rattle.frame.proofs.maker.Maker.+put_row_put_stuff_bit.Goals as goal
 
 -- ---- the maker of rows
 
-pub put_row-returns-then-self-eq0 : goal.put_row-returns-then-self-eq0
-put_row-returns-then-self-eq0 t c = puts_none c.args.self.now (rest c.args.self.now) (rest_none c.args.self.now c.if-self-eq0.true)
+pub put_row-returns-in_default : goal.put_row-returns-in_default
+put_row-returns-in_default t c = puts_none c.args.self.now (rest c.args.self.now) (row_none c.args.self.now c.in_default.ensures.steps.0)
 
 pub put_row-put-requires : goal.put_row-put-requires
-put_row-put-requires t c = (omega (arith, c.requires.0), row_place c.args.self.now c.if-self-eq0.false c.requires.1)
+put_row-put-requires t c =
+    (omega (arith, c.requires.0), row_place c.args.self.now c.in-Some.bit (left (record { fields = c.next.new.self; run = c.args.self.now.run; bits = c.args.self.now.bits })) c.in-Some.ensures.steps c.requires.1)
 
 pub put_row-put_stuff_bit-requires : goal.put_row-put_stuff_bit-requires
 put_row-put_stuff_bit-requires t c =
-    let is : c.put.new.self ≡ next c.args.self.now = c.put.ensures ∙ ap (λ b. with_bit b (taken c.args.self.now)) c.bit_at.ensures in
-    (omega (arith, c.decreases, ap (λ q. q.left) is), subst (λ q. Fits 5 q (rest_due q)) (sym is) (row_fits c.args.self.now c.if-self-eq0.false c.requires.0 c.requires.1))
+    let m = c.args.self.now in
+    let taken : Maker = record { fields = c.next.new.self; run = m.run; bits = m.bits } in
+    let less : length (left m) ≡ length (c.in-Some.bit ∷ left c.put.new.self) =
+    ap length (c.in-Some.ensures.steps ∙ ap (λ f. c.in-Some.bit ∷ bits_of f.width f.number) (sym c.put.ensures.fields)) in
+    (omega (arith, c.decreases, less), row_fits m taken c.put.new.self c.in-Some.bit c.in-Some.ensures.steps refl refl c.put.ensures c.requires.0 c.requires.1)
 
 pub put_row-returns : goal.put_row-returns
 put_row-returns t c =
-    let is : c.put.new.self ≡ next c.args.self.now = c.put.ensures ∙ ap (λ b. with_bit b (taken c.args.self.now)) c.bit_at.ensures in
-    let room : length c.args.self.now.bits ≡ 125 = search rules in
-    row_puts c.args.self.now c.put_stuff_bit.new.self c.if-self-eq0.false (omega (arith, room, row_place c.args.self.now c.if-self-eq0.false c.requires.1))
-    (subst (λ q. Puts q (rest_due q) c.put_stuff_bit.new.self) is c.put_stuff_bit.ensures)
+    let m = c.args.self.now in
+    let taken : Maker = record { fields = c.next.new.self; run = m.run; bits = m.bits } in
+    row_puts m taken c.put.new.self c.in-Some.bit c.in-Some.ensures.steps refl refl c.put.ensures c.put_stuff_bit.new.self c.put_stuff_bit.ensures
 
 -- ---- the maker of stuff bits
-
-pub put_stuff_bit-put_other-requires : goal.put_stuff_bit-put_other-requires
-put_stuff_bit-put_other-requires t c = (c.requires.0, five_place c.args.self.now (sym c.is_due.ensures ∙ c.if-is_due.true) c.requires.1)
 
 pub put_stuff_bit-put_row-requires : goal.put_stuff_bit-put_row-requires
 put_stuff_bit-put_row-requires t c =
     elim c.if-is_due.branch [
       | put_stuff_bit-then-is_due w ↦
-          let is : c.if-is_due.self ≡ stuffed c.args.self.now = w.self-is ∙ w.put_other.ensures in
-          let fits = five_fits c.args.self.now (sym c.is_due.ensures ∙ w.if-is_due.true) c.requires.1 in
-          (omega (arith, c.decreases, ap (λ q. q.left) is), subst (λ q. Fits 4 q (rest q)) (sym is) fits)
+          let put : HasPut _ c.args.self.now c.if-is_due.self = subst (HasPut _ c.args.self.now) (sym w.self-is) w.put_other.ensures in
+          let same : left c.if-is_due.self ≡ left c.args.self.now = ap (λ f. bits_of f.width f.number) put.fields in
+          (omega (arith, c.decreases, ap length same), five_fits c.args.self.now c.if-is_due.self (sym c.is_due.ensures ∙ w.if-is_due.true) put c.requires.1)
       | put_stuff_bit-else-is_due w ↦
           let fits = other_fits c.args.self.now (sym c.is_due.ensures ∙ w.if-is_due.false) c.requires in
-          (omega (arith, c.decreases, ap (λ q. q.left) w.self-is), subst (λ q. Fits 4 q (rest q)) (sym w.self-is) fits)
+          (omega (arith, c.decreases, ap (λ m. length (left m)) w.self-is), subst (λ m. Fits 4 m (rest m)) (sym w.self-is) fits)
     ]
 
 pub put_stuff_bit-returns : goal.put_stuff_bit-returns
 put_stuff_bit-returns t c =
-    let room : length c.args.self.now.bits ≡ 125 = search rules in
     elim c.if-is_due.branch [
       | put_stuff_bit-then-is_due w ↦
-          let is : c.if-is_due.self ≡ stuffed c.args.self.now = w.self-is ∙ w.put_other.ensures in
-          let five = sym c.is_due.ensures ∙ w.if-is_due.true in
-          five_puts c.args.self.now c.put_row.new.self five (omega (arith, room, five_place c.args.self.now five c.requires.1))
-          (subst (λ q. Puts q (rest q) c.put_row.new.self) is c.put_row.ensures)
+          five_puts c.args.self.now c.if-is_due.self (sym c.is_due.ensures ∙ w.if-is_due.true) (subst (HasPut _ c.args.self.now) (sym w.self-is) w.put_other.ensures) c.put_row.new.self c.put_row.ensures
       | put_stuff_bit-else-is_due w ↦
           other_puts c.args.self.now c.put_row.new.self (sym c.is_due.ensures ∙ w.if-is_due.false)
-          (subst (λ q. Puts q (rest q) c.put_row.new.self) w.self-is c.put_row.ensures)
+          (subst (λ m. Puts m (rest m) c.put_row.new.self) w.self-is c.put_row.ensures)
     ]

@@ -1,19 +1,15 @@
 -- Where a stuff bit is due, it is one of the other kind, and no line goes on with a like one.
-use Rattle.std.proofs.Common.{[], ◌∷◌, ◌++◌, sym, subst}
+use Rattle.std.proofs.Common.{◌≡◌, not, sym, ◌∙◌}
 use Rattle.reader.proofs.HearingLaws.{due_no_end, stuff-never, stuff-heard}
-use Rattle.reader.proofs.TestLaws.{like, unlike}
-use Rattle.reader.specs.Hearing.{Hears, row}
-use Rattle.reader.specs.Reading.{Stands}
+use Rattle.reader.proofs.TestLaws.{differs, like}
 use Rattle.reader.proofs.reader.Reader.hear_stuff_bit.Goals as goal
 
-pub returns-then-not-is_stuff_bit : goal.returns-then-not-is_stuff_bit
-returns-then-not-is_stuff_bit c u has id xs w stands =
-    let r = c.args.self in
-    stuff-never u (row r.fields) r.last r.run r.end has c.requires (due_no_end r c.requires) id xs w
-    (subst (λ b. Stands id xs (u ++ (b ∷ w))) (like c.args.bit r.last (sym c.if-not-is_stuff_bit.ensures)) stands)
+pub returns-then-bit-stuff_bit : goal.returns-then-bit-stuff_bit
+returns-then-bit-stuff_bit c u has =
+    stuff-never has c.requires (due_no_end c.args.self c.requires) c.args.bit
+    (λ is. differs c.args.bit c.stuff_bit.result c.if-bit-stuff_bit.true (is ∙ sym c.stuff_bit.ensures))
 
 pub returns : goal.returns
 returns c u has =
-    let r = c.args.self in
-    subst (λ b. Hears (u ++ (b ∷ [])) (row r.fields) b 1 0) (sym (unlike c.args.bit r.last (sym c.if-not-is_stuff_bit.ensures)))
-    (stuff-heard u (row r.fields) r.last r.run r.end has c.requires (due_no_end r c.requires))
+    let other : c.args.bit ≡ not c.args.self.run.bit = like c.args.bit c.stuff_bit.result c.if-bit-stuff_bit.false ∙ c.stuff_bit.ensures in
+    rw (c.new.ensures.bit, c.new.ensures.count) (stuff-heard has c.requires (due_no_end c.args.self c.requires) c.args.bit other)

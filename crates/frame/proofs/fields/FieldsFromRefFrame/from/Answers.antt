@@ -1,13 +1,12 @@
 -- Each byte is joined as eight bits more, and the check as fifteen; the fields of eight bytes have 94 bits, so that nothing is lost.
 use Rattle.std.proofs.Common.{◌≡◌, ◌+◌, ◌*◌, ◌^◌, ◌<◌, ◌≤◌, length, get_or, sym, ap, ◌∙◌, subst, arith, lit<, rules}
 use Rattle.bits.proofs.CrcLaws.{crc_from_lt}
-use Rattle.bits.specs.Bits.{bits_of}
 use Rattle.bits.specs.Crc.{crc, covered}
 use Rattle.frame.specs.Contents.{frame_data}
 use Rattle.frame.specs.Fields.{fields}
 use Rattle.frame.proofs.FieldLaws.{Joined, few_bytes, joined_small, joined_none, joined_more, joined_all}
-use Rattle.frame.proofs.fields.fields_of.Goals.{After-from-2}
-use Rattle.frame.proofs.fields.fields_of.Goals as goal
+use Rattle.frame.proofs.fields.FieldsFromRefFrame.from.Goals.{After-from-2}
+use Rattle.frame.proofs.fields.FieldsFromRefFrame.from.Goals as goal
 
 pub loop-byte-init : goal.loop-byte-init
 loop-byte-init c =
@@ -15,17 +14,6 @@ loop-byte-init c =
     let few : length c.data-data.result.now ≤ 8 = omega (arith, ap length c.data-data.ensures, few_bytes c.args.frame.now) in
     subst (λ n. Joined c.args.frame.now.id c.data-data.result.now 0 (n * 16 + length c.data-data.result.now)) (sym id)
     (joined_none c.args.frame.now.id c.data-data.result.now c.args.frame.now.good.0 few)
-
-pub overflow_mul-number-in-loop-byte : goal.overflow_mul-number-in-loop-byte
-overflow_mul-number-in-loop-byte c =
-    let small = joined_small c.args.frame.now c.data-data.result.now c.loop-byte.byte-index c.loop-byte.number c.data-data.ensures c.loop-byte.auto.byte-index-end c.loop-byte.invariant in
-    omega (arith, small)
-
-pub overflow_add-number-in-loop-byte : goal.overflow_add-number-in-loop-byte
-overflow_add-number-in-loop-byte c =
-    let small = joined_small c.args.frame.now c.data-data.result.now c.loop-byte.byte-index c.loop-byte.number c.data-data.ensures c.loop-byte.auto.byte-index-end c.loop-byte.invariant in
-    let byte : get_or c.data-data.result.now c.loop-byte.byte-index 0 < 256 = search rules in
-    omega (arith, c.from-in-loop-byte.ensures, byte, small)
 
 pub loop-byte-preserved : goal.loop-byte-preserved
 loop-byte-preserved c =
@@ -55,10 +43,7 @@ overflow_add-result c =
 pub returns : goal.returns
 returns c =
     let d : After-from-2 = (goal.at.returns c).After-from-2 in
-    let len : length (frame_data c.args.frame.now) ≡ c.args.frame.now.len = search rules in
-    let width : 30 + 8 * c.from-3.result ≡ 30 + 8 * length c.data-data.result.now = omega (arith, c.from-3.ensures, len, ap length c.data-data.ensures) in
     let same = check d ∙ ap (λ xs. crc (covered c.args.frame.now.id xs)) (sym c.data-data.ensures) in
     let all : c.loop-byte.byte-index ≡ length c.data-data.result.now = omega (arith, c.loop-byte.auto.byte-index-end, c.loop-byte-test.false) in
-    ap (λ n. bits_of n (c.loop-byte.number * 32768 + c.from-2.result)) width
-    ∙ joined_all c.args.frame.now.id c.data-data.result.now c.loop-byte.byte-index c.loop-byte.number c.from-2.result all (narrow d) same c.loop-byte.invariant
+    joined_all c.args.frame.now.id c.data-data.result.now c.loop-byte.byte-index c.loop-byte.number c.from-2.result all (narrow d) same c.loop-byte.invariant
     ∙ ap (fields c.args.frame.now.id) c.data-data.ensures

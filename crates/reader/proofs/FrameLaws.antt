@@ -1,67 +1,52 @@
--- A frame taken from the number that its fields are, byte by byte from the last (`taken_more`), until its identifier is left (`taken-all`);
--- and its fields are then the bits of that number (`fields_are`). Rests on the laws of bits and numbers and on FieldsBack.
+-- A frame taken from the number that its fields are: its identifier (`id-taken`) and its bytes (`data_taken`); and its fields
+-- are then the bits of that number (`fields_are`). Rests on the laws of bits and numbers and on FieldsBack.
 -- Assumes nothing else.
-use Rattle.std.proofs.Common.{◌≡◌, ℕ, zero, suc, ◌+◌, ◌-◌, ◌*◌, ◌/◌, ◌%◌, ◌^◌, ◌<◌, ◌≤◌, Bool, true, List, [], ◌∷◌, ◌++◌, length, get_or, take, drop, set, sym, ap, ◌∙◌, ap₂, mod-eq_of_lt, arith, shr_lt}
-use native.Mathlib.Nat.{sub-zero}
-use Rattle.std.proofs.lemmas.List.{append_assoc, append-nil, drop_all, drop_more, drop-set, length-append, length-set, nil_from_length, take_all, take_more}
+use Rattle.std.proofs.Common.{◌≡◌, ℕ, zero, suc, ◌+◌, ◌-◌, ◌*◌, ◌/◌, ◌%◌, ◌^◌, ◌<◌, ◌≤◌, Bool, true, List, [], ◌∷◌, ◌++◌, length, take, drop, sym, refl, ap, ◌∙◌, ap₂, mod-eq_of_lt, arith, shr_lt, pow-add, div-one}
+use Rattle.std.proofs.Math.Nat.{pow-suc}
+use Rattle.std.proofs.lemmas.List.{append-nil, drop_at, length-append, nil_from_length, take_all, take_at}
+use Rattle.std.specs.Int.{byte_at, bytes_high_first}
 use Rattle.bits.proofs.BitLaws.{bits_of-add, length-bits_of}
 use Rattle.bits.proofs.NumberLaws.{number-bits_of}
-use Rattle.bits.specs.Bits.{bits_of, bytes_bits}
+use Rattle.bits.specs.Bits.{bits_of}
 use Rattle.bits.specs.Crc.{crc, covered}
 use Rattle.bits.specs.Number.{number}
-use Rattle.frame.proofs.FieldLaws.{Joined, bytes_bits-++}
-use Rattle.frame.proofs.GoodLaws.{bytes_first, good_from}
+use Rattle.frame.proofs.GoodLaws.{good_from}
 use Rattle.frame.proofs.LineLaws.{length_fields, same_front}
 use Rattle.frame.specs.Fields.{fields}
-use Rattle.frame.specs.Good.{all_bytes, good_frame}
+use Rattle.frame.specs.Good.{good_frame}
 use Rattle.reader.proofs.FieldsBack.{bytes_in_bytes, covered_back, length-bytes_in, number_below}
-use Rattle.reader.proofs.PrefixLaws.{begins-length, length_kept, same_behind}
+use Rattle.reader.proofs.PrefixLaws.{begins-length, length_kept}
 use Rattle.reader.specs.Beginning.{Begins}
 use Rattle.reader.specs.Reading.{bytes_in, length_in}
 
--- numbers whose lowest bits are the same
-same_low : (n x y : ℕ) → bits_of n x ≡ bits_of n y → x % 2 ^ n ≡ y % 2 ^ n
-same_low n x y e = sym (number-bits_of n x) ∙ ap number e ∙ number-bits_of n y
+-- ---- the bytes of a number
 
-byte_small : (xs : List ℕ) (i : ℕ) → all_bytes xs ≡ true → i < length xs → get_or xs i 0 < 256
-byte_small [] i bytes h = absurd (omega arith)
-byte_small (x ∷ xs) zero bytes h = (bytes_first x xs bytes).0
-byte_small (x ∷ xs) (suc i) bytes h = byte_small xs i (bytes_first x xs bytes).1 (omega arith)
+powers : (n : ℕ) → 2 ^ (8 * n) ≡ 256 ^ n
+powers zero = refl
+powers (suc n) =
+    let width : 8 * suc n ≡ 8 * n + 8 = omega arith in
+    ap (λ k. 2 ^ k) width ∙ pow-add 2 (8 * n) 8 ∙ ap (λ k. k * 256) (powers n) ∙ sym (pow-suc 256 n)
 
--- ---- one byte fewer joined
+byte_there : (n x : ℕ) → x / 2 ^ (8 * n) % 256 ≡ byte_at n x
+byte_there zero x = ap (λ k. k % 256) (div-one x)
+byte_there (suc n) x = ap (λ k. x / k % 256) (powers (suc n))
 
-module _ (id : ℕ) (xs : List ℕ) (bytes : all_bytes xs ≡ true) (i n : ℕ) (h : i < length xs) (joined : Joined id xs (i + 1) n) where
-  front : List Bool
-  front = bits_of 11 id ++ (bits_of 4 (length xs) ++ bytes_bits (take i xs))
+bytes_written : (n x : ℕ) → bytes_in n (bits_of (8 * n) x) ≡ bytes_high_first n x
+unfolding bytes_in
+bytes_written zero x = refl
+bytes_written (suc n) x =
+    let width : 8 * suc n ≡ 8 + 8 * n = omega arith in
+    let high : List Bool = bits_of 8 (x / 2 ^ (8 * n)) in
+    let low : List Bool = bits_of (8 * n) x in
+    let eight : length high ≡ 8 = length-bits_of 8 (x / 2 ^ (8 * n)) in
+    ap (bytes_in (suc n)) (ap (λ k. bits_of k x) width ∙ bits_of-add 8 (8 * n) x)
+    ∙ ap₂ ◌∷◌ (ap number (take_at high low 8 eight) ∙ number-bits_of 8 (x / 2 ^ (8 * n)) ∙ byte_there n x) (ap (bytes_in n) (drop_at high low 8 eight) ∙ bytes_written n x)
 
-  last : List Bool
-  last = bits_of 8 (get_or xs i 0)
-
-  width : 15 + 8 * (i + 1) ≡ 15 + 8 * i + 8
-  width = omega arith
-
-  parted : bits_of (15 + 8 * i) (n / 2 ^ 8) ++ bits_of 8 n ≡ front ++ last
-  unfolding front last bytes_bits
-  parted =
-      sym (bits_of-add (15 + 8 * i) 8 n) ∙ ap (λ k. bits_of k n) (sym width) ∙ joined.1
-      ∙ ap (λ r. bits_of 11 id ++ (bits_of 4 (length xs) ++ r))
-      (ap bytes_bits (take_more xs i 0 h) ∙ bytes_bits-++ (take i xs) (get_or xs i 0 ∷ []) ∙ ap (λ r. bytes_bits (take i xs) ++ r) (append-nil (bits_of 8 (get_or xs i 0))))
-      ∙ ap (λ r. bits_of 11 id ++ r) (sym (append_assoc (bits_of 4 (length xs)) (bytes_bits (take i xs)) (bits_of 8 (get_or xs i 0))))
-      ∙ sym (append_assoc (bits_of 11 id) (bits_of 4 (length xs) ++ bytes_bits (take i xs)) (bits_of 8 (get_or xs i 0)))
-
-  fronts : bits_of (15 + 8 * i) (n / 2 ^ 8) ≡ front
-  unfolding last
-  fronts = same_front (bits_of (15 + 8 * i) (n / 2 ^ 8)) (bits_of 8 n) front last parted (length-bits_of 8 n ∙ sym (length-bits_of 8 (get_or xs i 0)))
-
-  joined_less : Joined id xs i (n / 256)
-  unfolding front
-  joined_less = (shr_lt (15 + 8 * i) 8 (omega (arith, joined.0, ap (λ k. 2 ^ k) width)), fronts)
-
-  last_byte : n % 256 ≡ get_or xs i 0
-  unfolding last
-  last_byte =
-      same_low 8 n (get_or xs i 0) (same_behind (bits_of (15 + 8 * i) (n / 2 ^ 8)) (bits_of 8 n) front last parted (ap length fronts))
-      ∙ mod-eq_of_lt (byte_small xs i bytes h)
+-- the lowest bytes are the last
+last_bytes : (k m n x : ℕ) → m ≡ k + n → drop k (bytes_high_first m x) ≡ bytes_high_first n x
+last_bytes zero m n x e = ap (λ i. bytes_high_first i x) (omega (arith, e))
+last_bytes (suc k) zero n x e = absurd (omega arith)
+last_bytes (suc k) (suc m) n x e = last_bytes k m n x (omega arith)
 
 -- ---- the frame of the bits before the check
 
@@ -75,55 +60,31 @@ module _ (len x : ℕ) where
   abbrev pub data_of : List ℕ
   data_of = bytes_in len (drop 15 head)
 
-  -- the bytes from the place i on are taken, and the number rest has what is before them
-  pub record TakenTo (i rest : ℕ) (bytes : List ℕ) : Type 0 where
-    pub joined : Joined id-of data_of i rest
-    pub long : length bytes ≡ 8
-    pub behind : take (len - i) (drop i bytes) ≡ drop i data_of
+  -- the identifier as the code takes it from the number
+  pub id-taken : x < 2 ^ (15 + 8 * len) → x / 2 ^ (4 + 8 * len) ≡ id-of
+  id-taken small =
+      let width : 15 + 8 * len ≡ 11 + (4 + 8 * len) = omega arith in
+      let id : ℕ = x / 2 ^ (4 + 8 * len) in
+      sym (ap number (ap (λ k. take 11 (bits_of k x)) width ∙ ap (take 11) (bits_of-add 11 (4 + 8 * len) x) ∙ take_at (bits_of 11 id) (bits_of (4 + 8 * len) x) 11 (length-bits_of 11 id))
+      ∙ number-bits_of 11 id ∙ mod-eq_of_lt (shr_lt 11 (4 + 8 * len) (omega (arith, small, ap (λ k. 2 ^ k) width))))
 
   module _ (few : len ≤ 8) where
     pub frame-good : good_frame id-of data_of ≡ true
     frame-good = good_from id-of data_of (number_below 11 head) (omega (arith, length-bytes_in len (drop 15 head), few)) (bytes_in_bytes len (drop 15 head))
 
-    pub head-is : length_in head ≡ len → covered id-of data_of ≡ head
+    -- and the bytes, the last of sixteen
+    pub data_taken : (bytes : List ℕ) → bytes ≡ bytes_high_first 16 x → take (16 - (16 - len)) (drop (16 - len) bytes) ≡ data_of
+    data_taken bytes is =
+        let header : List Bool = bits_of 15 (x / 2 ^ (8 * len)) in
+        let behind : bytes_high_first len x ≡ data_of =
+        sym (ap (bytes_in len) (ap (drop 15) (bits_of-add 15 (8 * len) x) ∙ drop_at header (bits_of (8 * len) x) 15 (length-bits_of 15 (x / 2 ^ (8 * len)))) ∙ bytes_written len x) in
+        let last : drop (16 - len) bytes ≡ data_of = ap (drop (16 - len)) is ∙ last_bytes (16 - len) 16 len x (omega arith) ∙ behind in
+        ap (take (16 - (16 - len))) last ∙ take_all (16 - (16 - len)) data_of (omega (arith, length-bytes_in len (drop 15 head)))
+
+    head-is : length_in head ≡ len → covered id-of data_of ≡ head
     head-is e =
         let long : length head ≡ 15 + 8 * len = length-bits_of (15 + 8 * len) x in
         ap (λ k. covered id-of (bytes_in k (drop 15 head))) (sym e) ∙ covered_back head (omega (arith, e, long)) ∙ take_all (15 + 8 * length_in head) head (omega (arith, e, long))
-
-    pub taken_none : (bytes : List ℕ) → length bytes ≡ 8 → x < 2 ^ (15 + 8 * len) → length_in head ≡ len → TakenTo len x bytes
-    unfolding covered
-    taken_none bytes eight small e =
-        let many : length data_of ≡ len = length-bytes_in len (drop 15 head) in
-        let none : len - len ≡ 0 = omega arith in
-        record {
-          joined = (small, sym (head-is e) ∙ ap (λ r. bits_of 11 id-of ++ (bits_of 4 (length data_of) ++ bytes_bits r)) (sym (take_all len data_of (omega (arith, many)))));
-          long = eight;
-          behind = ap (λ k. take k (drop len bytes)) none ∙ sym (drop_all len data_of (omega (arith, many)));
-        }
-
-    pub taken_more : (i rest : ℕ) (bytes : List ℕ) → i < len → TakenTo (i + 1) rest bytes → TakenTo i (rest / 256) (set bytes i (rest % 256))
-    taken_more i rest bytes h so =
-        let many : length data_of ≡ len = length-bytes_in len (drop 15 head) in
-        let good_bytes = bytes_in_bytes len (drop 15 head) in
-        let here : i < length data_of = omega (arith, many) in
-        let left : len - i ≡ suc (len - (i + 1)) = omega arith in
-        record {
-          joined = joined_less id-of data_of good_bytes i rest here so.joined;
-          long = simp length-set so.long;
-          behind =
-              ap₂ (λ k l. take k l) left (drop-set bytes i (rest % 256) (omega (arith, so.long, few)))
-              ∙ ap₂ ◌∷◌ (last_byte id-of data_of good_bytes i rest here so.joined) so.behind ∙ sym (drop_more data_of i 0 here);
-        }
-
-    pub taken-all : (rest : ℕ) (bytes : List ℕ) → TakenTo 0 rest bytes → (rest / 16 ≡ id-of) × (take len bytes ≡ data_of)
-    unfolding bytes_bits
-    taken-all rest bytes so =
-        let (small, bits) = so.joined in
-        let parts : bits_of 11 (rest / 2 ^ 4) ++ bits_of 4 rest ≡ bits_of 11 id-of ++ (bits_of 4 (length data_of) ++ []) = sym (bits_of-add 11 4 rest) ∙ bits in
-        let ends : length (bits_of 4 rest) ≡ length (bits_of 4 (length data_of) ++ []) =
-        length-bits_of 4 rest ∙ sym (ap length (append-nil (bits_of 4 (length data_of))) ∙ length-bits_of 4 (length data_of)) in
-        let same = same_low 11 (rest / 2 ^ 4) id-of (same_front (bits_of 11 (rest / 2 ^ 4)) (bits_of 4 rest) (bits_of 11 id-of) (bits_of 4 (length data_of) ++ []) parts ends) in
-        (sym (mod-eq_of_lt (shr_lt 11 4 small)) ∙ same ∙ mod-eq_of_lt (number_below 11 head), ap (λ k. take k bytes) (sym (sub-zero len)) ∙ so.behind)
 
 -- ---- the frame's fields are the bits
 

@@ -11,11 +11,6 @@ use bits::Crc;
 use frame::widths::{BYTE, CHECK, FIXED, HEADER, ID, LENGTH};
 use frame::{Frame, MOST_BYTES};
 
-// How many values a length and a byte have.
-const LENGTHS: u128 = 1 << LENGTH;
-
-const BYTES: u128 = 1 << BYTE;
-
 // The most bytes that a frame has.
 const LARGEST_LEN: u32 = MOST_BYTES as u32;
 
@@ -80,19 +75,16 @@ impl Prefix {
         Some(len)
     }
 
-    // The frame whose fields these are: its bytes are taken from the last one on, and its identifier is left.
+    // The frame whose fields these are: before the check stand its bytes, and before these its length and its identifier.
     pub(crate) fn frame(self) -> Frame
         requires { whole self ≡ true }
         ensures { Begins (row self) → fields result.id (frame_data result) ≡ row self }
     {
-        let mut bytes = [0u8; MOST_BYTES];
-        let len = self.len as usize;
-        let mut rest = self.number / (1 << CHECK);
-        for place in (0..len).rev() {
-            bytes[place] = (rest % BYTES) as u8;
-            rest /= BYTES;
-        }
-        Frame::new((rest / LENGTHS) as u64, &bytes[0..len]).unwrap()
+        let plain = self.number >> CHECK;
+        let id = plain >> (LENGTH + BYTE * self.len);
+        let bytes = plain.to_be_bytes();
+        let data = &bytes[bytes.len() - self.len as usize..];
+        Frame::new(id as u64, data).unwrap()
     }
 }
 

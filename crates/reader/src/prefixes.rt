@@ -1,5 +1,5 @@
 // The fields of a frame, read bit by bit: whether a bit can come next, and the frame in the end.
-ghost use Rattle.std.specs.Prelude.{◌≡◌, ◌+◌, ◌*◌, ◌<◌, ◌≤◌, true, false, [], ◌∷◌, ◌++◌, MatchOption, nat_le, nat_lt};
+ghost use Rattle.std.specs.Prelude.{◌≡◌, ◌+◌, ◌*◌, ◌<◌, ◌≤◌, true, false, [], ◌∷◌, ◌++◌, MatchOption, nat_le};
 ghost use Rattle.frame.specs.Contents.{frame_data};
 ghost use Rattle.frame.specs.Fields.{fields};
 ghost use Rattle.reader.specs.Beginning.{Begins, least_length};
@@ -69,10 +69,7 @@ impl Prefix {
         let len = 2 * self.len + u32::from(bit);
         // As if only low bits of it were still to come.
         let least = len * (1 << (HEADER - 1 - self.count));
-        if is_too_long(least) {
-            return None;
-        }
-        Some(len)
+        (least <= LARGEST_LEN).then_some(len)
     }
 
     // The frame whose fields these are: before the check stand its bytes, and before these its length and its identifier.
@@ -86,11 +83,4 @@ impl Prefix {
         let data = &bytes[bytes.len() - self.len as usize..];
         Frame::new(id as u64, data).unwrap()
     }
-}
-
-// Whether no frame has so many bytes.
-fn is_too_long(len: u32) -> bool
-    ensures { result ≡ nat_lt 8 len }
-{
-    len > LARGEST_LEN
 }

@@ -1,7 +1,8 @@
 -- Before and behind the length's bits nothing is said of it; among them a bit doubles what is known, and what is left counts by twos.
-use Rattle.std.proofs.Common.{◌≡◌, ◌+◌, ◌-◌, ◌*◌, ◌%◌, ◌^◌, ◌<◌, ◌≤◌, ◌⊎◌, [], ◌∷◌, ◌++◌, length, sym, ap, ◌∙◌, ap₂, inl, inr, arith}
+use Rattle.std.proofs.Common.{◌≡◌, ◌+◌, ◌-◌, ◌*◌, ◌%◌, ◌^◌, ◌<◌, ◌≤◌, ◌⊎◌, [], ◌∷◌, ◌++◌, length, sym, ap, ◌∙◌, ap₂, inl, inr, arith, refl, Bool, true, false, leb, MatchOption, ℕ}
+use Rattle.std.specs.Bool.{then_some}
 use Rattle.std.proofs.lemmas.Nat.{one_shl}
-use Rattle.std.proofs.lemmas.Bool.{ltb-false, ltb-true}
+use Rattle.std.proofs.lemmas.Bool.{leb-false, leb-true}
 use Rattle.bits.proofs.BitLaws.{bool_byte-is}
 use Rattle.reader.proofs.PrefixLaws.{length_before, length_behind, length-bit, least_behind, least_bit}
 use Rattle.reader.proofs.TestLaws.{count_is}
@@ -34,8 +35,14 @@ least c =
     ap₂ (λ k t. k * t) (doubled c) (one_shl (14 - c.args.self.count) 32 (omega arith) ∙ ap (λ n. 2 ^ (14 - n)) (sym (count_is c.args.self)))
     ∙ sym (least_bit (row c.args.self) c.args.bit (omega (arith, count_is c.args.self, c.if-self-lt-ID.false)) (omega (arith, count_is c.args.self, c.if-self-ge-HEADER.false)))
 
-pub returns-then-is_too_long : goal.returns-then-is_too_long
-returns-then-is_too_long c = omega (arith, ltb-true 8 _ (sym c.if-is_too_long.ensures), least (goal.at.returns-then-is_too_long c).After-from)
+kept : (n k : ℕ) → MatchOption (then_some (leb n 8) k) (8 < n) (λ x. (x ≡ k) × (n ≤ 8))
+kept n k = go (leb n 8) refl
+  where
+    go : (t : Bool) → leb n 8 ≡ t → MatchOption (then_some t k) (8 < n) (λ x. (x ≡ k) × (n ≤ 8))
+    go true is = (refl, leb-true n 8 is)
+    go false is = leb-false n 8 is
 
 pub returns : goal.returns
-returns c = (doubled (goal.at.returns c).After-from, omega (arith, ltb-false 8 _ (sym c.if-is_too_long.ensures), least (goal.at.returns c).After-from))
+returns c =
+    let at = (goal.at.returns c).After-from in
+    rw (c.then_some.ensures, least at, doubled at) (kept _ _)

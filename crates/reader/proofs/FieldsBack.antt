@@ -1,7 +1,8 @@
 -- A frame back from the bits of its fields (`id_back`, `length_back`, `data_back`), and bits that are the fields before the check of
 -- the frame that is read from them (`covered_back`). Rests on the laws of bits, numbers and fields. Assumes nothing else.
 use Rattle.std.proofs.Common.{◌≡◌, ℕ, zero, suc, ◌+◌, ◌*◌, ◌^◌, ◌<◌, ◌≤◌, Bool, true, List, [], ◌∷◌, ◌++◌, length, take, drop, sym, refl, ap, ◌∙◌, ap₂, lt_of_lt_of_le, mod-eq_of_lt, arith, pow_mono}
-use Rattle.std.proofs.lemmas.List.{append_assoc, drop_at, drop-append-le, drop-drop, drop-take, length-drop, length-take, length-take-le, take-append-drop, take-append-le, take_at, take-take}
+use Rattle.std.proofs.Math.Seq.{take-add}
+use Rattle.std.proofs.lemmas.List.{append_assoc, drop_at, drop-append-le, drop-drop, length-drop, length-take, length-take-le, take-append-le, take_at}
 use Rattle.bits.proofs.BitLaws.{length-bits_of}
 use Rattle.bits.proofs.NumberLaws.{bits_of-number_from, number-bits_of, number_lt}
 use Rattle.bits.specs.Bits.{bits_of, bytes_bits}
@@ -15,10 +16,6 @@ use Rattle.frame.specs.Good.{all_bytes, good_frame}
 use Rattle.reader.specs.Reading.{bytes_in, length_in}
 
 -- ---- rows of bits
-
-pub take-add : {A : Type 0} (m n : ℕ) (l : List A) → take (m + n) l ≡ take m l ++ take n (drop m l)
-take-add m n l =
-    sym (take-append-drop m (take (m + n) l)) ∙ ap₂ (λ a b. a ++ b) (take-take m (m + n) l (omega arith)) (drop-take m n l)
 
 -- the bits of the number that bits write
 pub bits_back : (n : ℕ) (bs : List Bool) → length bs ≡ n → bits_of n (number bs) ≡ bs

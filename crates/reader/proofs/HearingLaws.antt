@@ -4,13 +4,12 @@
 use Rattle.std.proofs.Common.{◌≡◌, ℕ, zero, suc, ◌+◌, ◌-◌, ◌*◌, ◌<◌, ◌≤◌, Bool, true, false, cond, not, ◌⊎◌, List, [], ◌∷◌, ◌++◌, length, drop, replicate, sym, refl, ap, ◌∙◌, subst, ap₂, inl, inr, arith}
 use Rattle.std.proofs.lemmas.List.{append_assoc, append_cancel_left, append-nil, length-append, length-replicate, nil_from_length, replicate-append-replicate, replicate_more}
 use Rattle.std.proofs.lemmas.Bool.{both_ways, cases_lt, eq-eqb, eqb-false, eqb-true}
-use Rattle.bits.proofs.BitLaws.{length-bits_of}
 use Rattle.frame.proofs.LineLaws.{length_fields, same_first}
 use Rattle.frame.specs.Fields.{fields}
 use Rattle.frame.specs.Good.{good_frame}
 use Rattle.frame.specs.Line.{line, start, end}
 use Rattle.frame.specs.Stuffing.{due, run, stuff, stuff_due}
-use Rattle.reader.proofs.PrefixLaws.{begins-length}
+use Rattle.reader.proofs.PrefixLaws.{begins-length, count_is}
 use Rattle.reader.specs.Beginning.{Begins}
 use Rattle.reader.specs.Hearing.{Hears, Stuffed, row, whole}
 use Rattle.reader.specs.Laws.{StillWithin}
@@ -19,9 +18,6 @@ use Rattle.reader.specs.declared.prefix.Prefix.{Prefix}
 use Rattle.reader.specs.declared.reader.Reader.{Reader}
 
 -- ---- how a line goes on
-
-pub stuffed_start : Stuffed [] start 1 (start ∷ [])
-stuffed_start rest = refl
 
 module _ (d : List Bool) (b : Bool) (n : ℕ) (front : List Bool) (stuffed : Stuffed d b n front) where
   pub stuffed_due : due n ≡ true → Stuffed d (not b) 1 (front ++ (not b ∷ []))
@@ -219,10 +215,10 @@ module _ {u d : List Bool} {b : Bool} {n t : ℕ} (heard : Hears u d b n t) wher
 -- ---- the reader, as the code has it
 
 pub whole_is : (p : Prefix) → whole p ≡ true → length (row p) ≡ 30 + 8 * length_in (row p)
-whole_is p all = omega (arith, eqb-true p.count (30 + 8 * p.len) all, length-bits_of p.count p.number, p.counted)
+whole_is p all = omega (arith, eqb-true p.count (30 + 8 * p.len) all, count_is p, p.counted)
 
 pub short_is : (p : Prefix) → whole p ≡ false → length (row p) < 30 + 8 * length_in (row p)
-short_is p short = omega (arith, eqb-false p.count (30 + 8 * p.len) short, length-bits_of p.count p.number, p.counted, p.short)
+short_is p short = omega (arith, eqb-false p.count (30 + 8 * p.len) short, count_is p, p.counted, p.short)
 
 -- where a stuff bit is due, or the fields aren't whole, the end hasn't begun
 module _ (r : Reader) where

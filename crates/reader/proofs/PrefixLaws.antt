@@ -3,7 +3,8 @@
 -- Assumes nothing else.
 use Rattle.std.proofs.Common.{◌≡◌, ℕ, zero, suc, ◌+◌, ◌-◌, ◌*◌, ◌/◌, ◌%◌, ◌^◌, ◌<◌, ◌≤◌, Bool, true, false, ◌⊎◌, List, [], ◌∷◌, ◌++◌, length, take, drop, replicate, sym, refl, ap, ◌∙◌, ap₂, inl, inr, mod-eq_of_lt, mul-le-mul_left, mul-one, arith, lit<, pow_pos}
 use lib.Pow.{shl-shr}
-use Rattle.std.proofs.lemmas.List.{append_assoc, append-nil, drop-append-le, drop_at, length-append, length-drop, length_push, length-replicate, length-take-le, take_all, take-append-le}
+use Rattle.std.proofs.Math.Seq.{take-append-add}
+use Rattle.std.proofs.lemmas.List.{append_assoc, append-nil, drop-append-le, drop_at, drop-replicate, length-append, length-drop, length_push, length-replicate, length-take-le, take_all, take-append-le}
 use Rattle.std.proofs.lemmas.Bool.{cases_lt}
 use Rattle.bits.proofs.BitLaws.{bit_at-shr, bit_at-mod, bits_of-add, bits_of_join, length-bits_of}
 use Rattle.bits.proofs.CrcLaws.{crc_from-++, crc_from_lt, crc_from_own_bits}
@@ -16,17 +17,17 @@ use Rattle.frame.proofs.LineLaws.{length-covered, length_fields, same_first, sam
 use Rattle.frame.specs.Fields.{fields}
 use Rattle.reader.proofs.FieldsBack.{bytes_in_bytes, covered_back, length_back, length-bytes_in, number_below}
 use Rattle.reader.specs.Beginning.{Begins, least_length}
+use Rattle.reader.specs.Hearing.{row}
 use Rattle.reader.specs.Reading.{bytes_in, length_in}
+use Rattle.reader.specs.declared.prefix.Prefix.{Prefix}
 
 -- ---- rows of bits
 
 -- what is taken past a row is taken of what stands behind it
 take_past : {A : Type 0} (n : ℕ) (xs ys : List A) → length xs ≤ n → take n (xs ++ ys) ≡ xs ++ take (n - length xs) ys
-take_past n [] ys h = ap (λ k. take k ys) (omega arith)
-take_past zero (x ∷ xs) ys h = absurd (omega arith)
-take_past (suc n) (x ∷ xs) ys h =
-    let same : n - length xs ≡ suc n - suc (length xs) = omega arith in
-    ap (λ l. x ∷ l) (take_past n xs ys (omega arith) ∙ ap (λ k. xs ++ take k ys) same)
+take_past n xs ys h =
+    let all : n ≡ length xs + (n - length xs) = omega arith in
+    ap (λ k. take k (xs ++ ys)) all ∙ take-append-add xs ys (n - length xs)
 
 -- of two rows that are the same, the ends behind fronts of one length
 pub same_behind : (p q r s : List Bool) → p ++ q ≡ r ++ s → length p ≡ length r → q ≡ s
@@ -51,11 +52,6 @@ number_low zero m = refl
 number_low (suc n) zero = refl
 number_low (suc n) (suc m) = number_low n m
 
-drop_low : (k m : ℕ) → (j : ℕ) × (drop k (replicate m false) ≡ replicate j false)
-drop_low zero m = (m, refl)
-drop_low (suc k) zero = (0, refl)
-drop_low (suc k) (suc m) = drop_low k m
-
 -- a number is least if all bits are low that are left open
 lower : (n : ℕ) (d r : List Bool) (m : ℕ) → n ≤ length (d ++ r) → n ≤ length d + m → number (take n (d ++ replicate m false)) ≤ number (take n (d ++ r))
 lower zero d r m h k = omega arith
@@ -73,16 +69,17 @@ lower_behind :
     number (take n (drop k (d ++ replicate m false))) ≤ number (take n (drop k (d ++ r)))
 lower_behind zero n d r m h g = lower n d r m (omega arith) (omega arith)
 lower_behind (suc k) n [] r m h g =
-    let (j, is) = drop_low (suc k) m in
-    omega (arith, ap (λ l. number (take n l)) is, number_low n j)
+    omega (arith, ap (λ l. number (take n l)) (drop-replicate (suc k) m false), number_low n (m - suc k))
 lower_behind (suc k) n (b ∷ d) r m h g = lower_behind k n d r m (omega arith) (omega arith)
+
+-- whole fields say how many bytes there are
+says_length : (d : List Bool) (so : Begins d) → length_in (d ++ so.rest) ≡ length so.bytes
+says_length d so = ap length_in (sym so.these ∙ sym (append-nil (fields so.id so.bytes))) ∙ length_back so.id so.bytes so.is_good []
 
 pub begins_few : (d : List Bool) → Begins d → least_length d ≤ 8
 begins_few d so =
-    let is_good = so.is_good in
-    let few = (good_parts so.id so.bytes is_good).few in
-    let same : length_in (d ++ so.rest) ≡ length so.bytes =
-    ap length_in (sym so.these ∙ sym (append-nil (fields so.id so.bytes))) ∙ length_back so.id so.bytes is_good [] in
+    let few = (good_parts so.id so.bytes so.is_good).few in
+    let same = says_length d so in
     let long : 30 ≤ length (d ++ so.rest) = omega (arith, ap length so.these, length_fields so.id so.bytes) in
     let least = lower_behind 11 4 d so.rest 15 (omega (arith, long)) (omega arith) in
     omega (arith, least, same, few)
@@ -93,9 +90,7 @@ length_kept d r h =
     ap (λ l. number (take 4 l)) (drop-append-le 11 d r (omega arith)) ∙ ap number (take-append-le 4 (drop 11 d) r (omega (arith, h, length-drop 11 d)))
 
 pub begins-length : (d : List Bool) (so : Begins d) → 15 ≤ length d → length_in d ≡ length so.bytes
-begins-length d so h =
-    sym (length_kept d so.rest h) ∙ ap length_in (sym so.these ∙ sym (append-nil (fields so.id so.bytes)))
-    ∙ length_back so.id so.bytes so.is_good []
+begins-length d so h = sym (length_kept d so.rest h) ∙ says_length d so
 
 -- ---- the length, one bit more
 
@@ -106,8 +101,7 @@ module _ (d : List Bool) (b : Bool) where
   -- before the length's bits
   low_behind : (k n : ℕ) (e : List Bool) (m : ℕ) → length e ≤ k → number (take n (drop k (e ++ replicate m false))) ≡ 0
   low_behind k n [] m h =
-      let (j, is) = drop_low k m in
-      ap (λ l. number (take n l)) is ∙ number_low n j
+      ap (λ l. number (take n l)) (drop-replicate k m false) ∙ number_low n (m - k)
   low_behind zero n (x ∷ e) m h = absurd (omega arith)
   low_behind (suc k) n (x ∷ e) m h = low_behind k n e m (omega arith)
 
@@ -265,6 +259,9 @@ module _ (d : List Bool) (b : Bool) where
       either (inr h) = begins_more so h short (own h)
 
 -- ---- bits as the lowest of a number
+
+pub count_is : (p : Prefix) → length (row p) ≡ p.count
+count_is p = length-bits_of p.count p.number
 
 pub row_push : (c x : ℕ) (b : Bool) → bits_of (c + 1) (2 * x + bit b) ≡ bits_of c x ++ (b ∷ [])
 unfolding bits_of bit bit_at

@@ -3,6 +3,7 @@
 -- Rests on the laws of stuff bits and on FieldsBack. Assumes nothing else.
 use Rattle.std.proofs.Common.{◌≡◌, ℕ, ◌+◌, ◌<◌, ◌≤◌, Bool, true, false, cond, not, ◌&&◌, List, [], ◌∷◌, ◌++◌, map, length, get_or, take, drop, Some, None, Option, sym, refl, ap, ◌∙◌, subst, ap₂, arith}
 use Rattle.std.proofs.lemmas.List.{append_assoc, append_cancel_left, append-nil, length-append, length-map, length-take-le, map-append, map_more, take_all, take-append-drop, take_at}
+use Rattle.std.proofs.lemmas.Option.{none-some}
 use Rattle.std.proofs.lemmas.Bool.{and_from, and_parts, both_ways, cond-true}
 use Rattle.bits.specs.Bits.{differ}
 use Rattle.bits.specs.Number.{number}
@@ -95,7 +96,7 @@ standing_found id xs bs e is = go (good_frame (id_in bs) (data_in bs) && begins 
           record { is_good = ap₂ good_frame (sym name) (sym bytes) ∙ is_good; behind = w; these = these ∙ ap₂ (λ i x. line i x ++ w) name bytes },
           sym ends ∙ ap₂ (λ i x. length (line i x)) name bytes,
         )
-    go false test is = let no : ◌≡◌ {A = ℕ} 0 1 = cc in absurd (omega arith)
+    go false test is = absurd (none-some _ is)
 
 pub found_none : (bs : List Bool) → ((id : ℕ) (xs : List ℕ) → Stands id xs bs → ⊥) → found bs ≡ None
 found_none bs never = go (found bs) refl
@@ -130,10 +131,7 @@ read_was_made bs n xs e is =
 
 -- where nothing is found, none stands
 pub nothing_standing : (bs : List Bool) → found bs ≡ None → (id : ℕ) (xs : List ℕ) → Stands id xs bs → ⊥
-nothing_standing bs none id xs stands =
-    let some = found_standing id xs bs stands in
-    let no : ◌≡◌ {A = ℕ} 0 1 = cc in
-    omega arith
+nothing_standing bs none id xs stands = none-some _ (sym none ∙ found_standing id xs bs stands)
 
 pub found_stands : FoundStands
 found_stands bs = record {
@@ -197,12 +195,12 @@ unfolding heard_to
 heard_none bits = refl
 
 -- no line stands where there is no start
-pub no_start : (b : Bool) (bs : List Bool) → b ≡ not start → None ≡ found (b ∷ bs)
+pub no_start : (b : Bool) (bs : List Bool) → (b ≡ start → ⊥) → None ≡ found (b ∷ bs)
 unfolding line
-no_start b bs high = sym (found_none (b ∷ bs) never)
+no_start b bs other = sym (found_none (b ∷ bs) never)
   where
     never : (id : ℕ) (xs : List ℕ) → Stands id xs (b ∷ bs) → ⊥
-    never id xs stands = both_ways b (same_first b start bs _ stands.these) high
+    never id xs stands = other (same_first b start bs _ stands.these)
 
 pub no_bits : (bits : List ℕ) → length bits ≡ 0 → None ≡ found (map lowest bits)
 no_bits [] none = sym (found_none [] never)

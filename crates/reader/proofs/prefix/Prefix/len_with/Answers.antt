@@ -4,8 +4,7 @@ use Rattle.std.specs.Bool.{then_some}
 use Rattle.std.proofs.lemmas.Nat.{one_shl}
 use Rattle.std.proofs.lemmas.Bool.{leb-false, leb-true}
 use Rattle.bits.proofs.BitLaws.{bool_byte-is}
-use Rattle.reader.proofs.PrefixLaws.{length_before, length_behind, length-bit, least_behind, least_bit}
-use Rattle.reader.proofs.TestLaws.{count_is}
+use Rattle.reader.proofs.PrefixLaws.{count_is, length_before, length_behind, length-bit, least_behind, least_bit}
 use Rattle.reader.specs.Beginning.{least_length}
 use Rattle.reader.specs.Hearing.{row}
 use Rattle.reader.specs.Reading.{length_in}

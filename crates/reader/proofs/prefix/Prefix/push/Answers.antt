@@ -5,9 +5,8 @@ use Rattle.bits.proofs.BitLaws.{bool_byte-is}
 use Rattle.bits.proofs.CrcLaws.{crc_from-++}
 use Rattle.bits.specs.Bits.{bit, bit_at, bits_of}
 use Rattle.bits.specs.Crc.{crc, crc_from, crc_step}
-use Rattle.frame.proofs.LineLaws.{not_other}
-use Rattle.reader.proofs.PrefixLaws.{begins_few, begins_next, begins_own, length_behind, length_few, row_push}
-use Rattle.reader.proofs.TestLaws.{count_is, like, unlike}
+use Rattle.reader.proofs.PrefixLaws.{begins_few, begins_next, begins_own, count_is, length_behind, length_few, row_push}
+use Rattle.reader.proofs.TestLaws.{differs, like}
 use Rattle.reader.specs.Beginning.{Begins}
 use Rattle.reader.specs.Hearing.{row}
 use Rattle.reader.specs.Reading.{length_in}
@@ -29,7 +28,7 @@ returns-then-bit-highest c so more =
     let p = c.args.self in
     let inside : 15 + 8 * p.len ≤ p.count = leb-true (15 + 8 * p.len) p.count (sym c.if-is_in_check.ensures) in
     let has-to = begins_own (row p) c.args.bit more (omega (arith, inside, p.counted, count_is p)) in
-    not_other c.highest.result (c.highest.ensures ∙ sym (has-to ∙ own p) ∙ unlike c.args.bit c.highest.result c.if-bit-highest.true)
+    differs c.args.bit c.highest.result c.if-bit-highest.true (has-to ∙ own p ∙ sym c.highest.ensures)
 
 -- ---- a bit with which the fields go on
 

@@ -1,8 +1,8 @@
 -- Where there is no bit, or no start, no line stands; else what stands behind the start decides.
-use Rattle.std.proofs.Common.{sym, ◌∙◌}
+use Rattle.std.proofs.Common.{◌∙◌}
 use Rattle.frame.specs.Line.{start}
 use Rattle.reader.proofs.ReadingLaws.{no_bits, no_start}
-use Rattle.reader.proofs.TestLaws.{unlike}
+use Rattle.reader.proofs.TestLaws.{differs}
 use Rattle.reader.proofs.reading.Reading.of.Goals as goal
 
 pub returns-in_err-first : goal.returns-in_err-first
@@ -10,4 +10,4 @@ returns-in_err-first c = rw c.from_residual.ensures (no_bits c.args.bits.now c.i
 
 pub returns-then-is_high-ne-START : goal.returns-then-is_high-ne-START
 returns-then-is_high-ne-START c =
-    rw c.in_ok-first.ensures.cases.0 (no_start _ _ (sym c.is_high.ensures ∙ unlike c.is_high.result start c.if-is_high-ne-START.true))
+    rw c.in_ok-first.ensures.cases.0 (no_start _ _ (λ is. differs c.is_high.result start c.if-is_high-ne-START.true (c.is_high.ensures ∙ is)))

@@ -3,7 +3,7 @@
 -- Rests on the laws of stuff bits and on FieldsBack. Assumes nothing else.
 use Rattle.std.proofs.Common.{◌≡◌, ℕ, ◌+◌, ◌<◌, ◌≤◌, Bool, true, false, cond, not, ◌&&◌, List, [], ◌∷◌, ◌++◌, map, length, get_or, take, drop, Some, None, Option, sym, refl, ap, ◌∙◌, subst, ap₂, arith}
 use Rattle.std.proofs.lemmas.List.{append_assoc, append_cancel_left, append-nil, length-append, length-map, length-take-le, map-append, map_more, take_all, take-append-drop, take_at}
-use Rattle.std.proofs.lemmas.Option.{none-some}
+use Rattle.std.proofs.lemmas.Option.{cond_some, none-some, same_Some}
 use Rattle.std.proofs.lemmas.Bool.{and_from, and_parts, both_ways, cond-true}
 use Rattle.bits.specs.Bits.{differ}
 use Rattle.bits.specs.Number.{number}
@@ -82,21 +82,16 @@ found_standing id xs bs stands = ap found stands.these ∙ found-line id xs stan
 
 pub standing_found : (id : ℕ) (xs : List ℕ) (bs : List Bool) (e : ℕ) → found bs ≡ Some (id, xs, e) → Stands id xs bs × (e ≡ length (line id xs))
 unfolding found
-standing_found id xs bs e is = go (good_frame (id_in bs) (data_in bs) && begins (line (id_in bs) (data_in bs)) bs) refl is
-  where
-    go : (t : Bool) → (good_frame (id_in bs) (data_in bs) && begins (line (id_in bs) (data_in bs)) bs) ≡ t
-        → cond {A = Option (ℕ × List ℕ × ℕ)} t (Some (id_in bs, data_in bs, length (line (id_in bs) (data_in bs)))) None ≡ Some (id, xs, e) → Stands id xs bs × (e ≡ length (line id xs))
-    go true test is =
-        let same : ◌≡◌ {A = ℕ × List ℕ × ℕ} (id_in bs, data_in bs, length (line (id_in bs) (data_in bs))) (id, xs, e) = cc in
-        let name : id_in bs ≡ id = ap (λ x. x.0) same in
-        let bytes : data_in bs ≡ xs = ap (λ x. x.1) same in
-        let ends : length (line (id_in bs) (data_in bs)) ≡ e = ap (λ x. x.2) same in
-        let (is_good, at_front) = and_parts (good_frame (id_in bs) (data_in bs)) (begins (line (id_in bs) (data_in bs)) bs) test in
-        let (w, these) = front_begins (line (id_in bs) (data_in bs)) bs at_front in (
-          record { is_good = ap₂ good_frame (sym name) (sym bytes) ∙ is_good; behind = w; these = these ∙ ap₂ (λ i x. line i x ++ w) name bytes },
-          sym ends ∙ ap₂ (λ i x. length (line i x)) name bytes,
-        )
-    go false test is = absurd (none-some _ is)
+standing_found id xs bs e is =
+    let (test, same) = cond_some (good_frame (id_in bs) (data_in bs) && begins (line (id_in bs) (data_in bs)) bs) (id_in bs, data_in bs, length (line (id_in bs) (data_in bs))) (id, xs, e) is in
+    let name : id_in bs ≡ id = ap (λ x. x.0) same in
+    let bytes : data_in bs ≡ xs = ap (λ x. x.1) same in
+    let ends : length (line (id_in bs) (data_in bs)) ≡ e = ap (λ x. x.2) same in
+    let (is_good, at_front) = and_parts (good_frame (id_in bs) (data_in bs)) (begins (line (id_in bs) (data_in bs)) bs) test in
+    let (w, these) = front_begins (line (id_in bs) (data_in bs)) bs at_front in (
+      record { is_good = ap₂ good_frame (sym name) (sym bytes) ∙ is_good; behind = w; these = these ∙ ap₂ (λ i x. line i x ++ w) name bytes },
+      sym ends ∙ ap₂ (λ i x. length (line i x)) name bytes,
+    )
 
 pub found_none : (bs : List Bool) → ((id : ℕ) (xs : List ℕ) → Stands id xs bs → ⊥) → found bs ≡ None
 found_none bs never = go (found bs) refl
@@ -107,13 +102,10 @@ found_none bs never = go (found bs) refl
 
 -- ---- laws
 
-same_some : (a b : ℕ × List ℕ × ℕ) → Some a ≡ Some b → a ≡ b
-same_some a b e = cc
-
 pub one_reading : OneReading
 one_reading m n xs ys u v good-x good-y e =
     let same : (m, xs, length (line m xs)) ≡ (n, ys, length (line n ys)) =
-    same_some (m, xs, length (line m xs)) (n, ys, length (line n ys)) (sym (found-line m xs good-x u) ∙ ap found e ∙ found-line n ys good-y v) in
+    same_Some (m, xs, length (line m xs)) (n, ys, length (line n ys)) (sym (found-line m xs good-x u) ∙ ap found e ∙ found-line n ys good-y v) in
     let name : m ≡ n = ap (λ x. x.0) same in
     let bytes : xs ≡ ys = ap (λ x. x.1) same in
     (name, bytes, append_cancel_left (line m xs) u v (e ∙ ap₂ (λ i x. line i x ++ v) (sym name) (sym bytes)))

@@ -7,11 +7,10 @@ use Rattle.std.proofs.lemmas.List.{length_push, map_push, take_all, take-append-
 use Rattle.std.specs.Option.{option_map}
 use Rattle.std.specs.Str.{bytes_eq}
 use Rattle.console.proofs.Apart.{none_some, some_none, sort}
-use Rattle.console.specs.Commands.{Holds, HoldsIf, Says, capped_reading}
+use Rattle.console.specs.Commands.{Holds, HoldsIf, SaysLetter, capped_reading}
 use Rattle.console.specs.Numeral.{number_in, capped}
 use Rattle.console.specs.Reading.{Reading, reading, command_words, letter_words, letter_of, line_words, name_from, before_colon, in_front, numbers, blank, unreadable}
 use Rattle.console.specs.Words.{words}
-use Rattle.console.specs.declared.command.Command.TheVariants.{Letter, Unreadable}
 use Rattle.console.specs.declared.numbers.Numbers.{Numbers}
 
 not-true : (b : Bool) → (b ≡ true → ⊥) → b ≡ false
@@ -55,30 +54,6 @@ before_colon_none w never = either (before_colon w) refl
     either : (o : Option (List ℕ)) → before_colon w ≡ o → before_colon w ≡ None
     either None e = e
     either (Some d) e = absurd (never d (before_colon_some w d e))
-
--- ---- numbers in fixed memory
-
--- one number more while there is room for it, and one more behind the eighth
-module _ (x y : Numbers) (ns : List ℕ) (n : ℕ) (long : length x.first ≡ 8) (counted : y.count ≡ x.count + 1) (holds : Holds x ns) where
-  more : y.count ≡ length (ns ++ (n ∷ []))
-  more = counted ∙ ap (λ k. k + 1) holds.count ∙ sym (length_push ns n)
-
-  pub holds_more : x.count < 8 → y.first ≡ set x.first x.count n → Holds y (ns ++ (n ∷ []))
-  holds_more room written = record {
-    count = more;
-    first =
-        (λ j. take (counted j) (written j)) ∙ take_more_set x.first x.count n (omega arith)
-        ∙ ap (λ l. l ++ (n ∷ [])) (holds.first ∙ take_all 8 ns (omega (arith, holds.count)))
-        ∙ sym (take_all 8 (ns ++ (n ∷ [])) (omega (arith, more)));
-  }
-
-  pub holds_past : 8 ≤ x.count → y.first ≡ x.first → Holds y (ns ++ (n ∷ []))
-  holds_past full same = record {
-    count = more;
-    first =
-        (λ j. take (counted j) (same j)) ∙ take_all (x.count + 1) x.first (omega arith) ∙ sym (take_all x.count x.first (omega arith))
-        ∙ holds.first ∙ sym (take-append-le 8 ns (n ∷ []) (omega (arith, holds.count)));
-  }
 
 -- ---- numbers, one word after the other
 
@@ -138,16 +113,16 @@ unfolding letter_words
 letter_capped ws w more cut = ap (λ l. capped_reading (letter_words l)) cut ∙ letter_of-capped (name_from (before_colon w)) (numbers more)
 
 -- what a letter says, by what could be read of it
-pub says_no_name : (r : Reading) (name : Option ℕ) (bytes : Option (List ℕ)) → r ≡ letter_of name bytes → None ≡ name → Says Unreadable r
+pub says_no_name : (r : Reading) (name : Option ℕ) (bytes : Option (List ℕ)) → r ≡ letter_of name bytes → None ≡ name → SaysLetter None r
 unfolding letter_of
 says_no_name r name bytes is none = rw (is, ← none) refl
 
-pub says_no_bytes : (r : Reading) (name : Option ℕ) (n : ℕ) (bytes : Option (List ℕ)) → r ≡ letter_of name bytes → Some n ≡ name → HoldsIf None bytes → Says Unreadable r
+pub says_no_bytes : (r : Reading) (name : Option ℕ) (n : ℕ) (bytes : Option (List ℕ)) → r ≡ letter_of name bytes → Some n ≡ name → HoldsIf None bytes → SaysLetter None r
 unfolding letter_of
 says_no_bytes r name n None is named holds = rw (is, ← named) refl
 says_no_bytes r name n (Some ns) is named holds = absurd holds
 
-pub says_letter : (r : Reading) (name : Option ℕ) (n : ℕ) (bytes : Option (List ℕ)) (x : Numbers) → r ≡ letter_of name bytes → Some n ≡ name → HoldsIf (Some x) bytes → Says (Letter n x) r
+pub says_letter : (r : Reading) (name : Option ℕ) (n : ℕ) (bytes : Option (List ℕ)) (x : Numbers) → r ≡ letter_of name bytes → Some n ≡ name → HoldsIf (Some x) bytes → SaysLetter (Some (record { name = n; bytes = x })) r
 unfolding letter_of
 says_letter r name n None x is named holds = absurd holds
 says_letter r name n (Some ns) x is named holds = (ns, rw (is, ← named) refl, holds)

@@ -71,9 +71,9 @@ frame_good n bs is =
     let below = ltb-true n 2048 parts.0 in
     (omega arith, leb-true (length bs) 8 parts.1)
 
--- a frame is made of a good letter
-pub frame_made : (n : ℕ) (bs : List ℕ) (made : Option Frame) → n ≤ 2047 → length bs ≤ 8 → option_map contents made ≡ cond (good n bs) (Some (n, bs)) None → (f : Frame) × (made ≡ Some f) × (contents f ≡ (n, bs))
-frame_made n bs made small few is = mapped_some contents made (n, bs) (is ∙ cond-true _ _ _ (good_frame n bs small few))
+-- a frame that is made of a letter holds it
+pub frame_made : (n : ℕ) (bs : List ℕ) (made : Option Frame) (f : Frame) → made ≡ Some f → option_map contents made ≡ cond (good n bs) (Some (n, bs)) None → contents f ≡ (n, bs)
+frame_made n bs made f is so = grind arith
 
 -- ---- good, or refused
 

@@ -1,32 +1,32 @@
 -- What becomes of a line: what is answered and kept after a letter, of which capping the numbers changes nothing, since a number
--- that is capped is too large in any case (`after_letter`), and after `line` (`after_line`); and which letter is the current one
+-- that is capped is too large in any case (`after_good`, `after_bad`), and after `line` (`after_line`, `after_no_line`); and which letter is the current one
 -- after any lines (`line_of_last`).
 -- Assumes nothing.
-use Rattle.std.proofs.Common.{◌≡◌, ℕ, zero, suc, ◌-◌, ◌^◌, ◌<◌, ◌≤◌, cond, ltb, ◌⊎◌, List, [], ◌∷◌, ◌++◌, map, length, get_or, take, set, replicate, Some, None, Option, sym, refl, ap, ◌∙◌, ap₂, inl, inr, arith}
+use Rattle.std.proofs.Common.{◌≡◌, ℕ, zero, suc, ◌-◌, ◌^◌, ◌<◌, ◌≤◌, cond, ltb, ◌⊎◌, List, [], ◌∷◌, ◌++◌, map, length, get_or, take, set, replicate, Some, None, Ok, Err, Option, Result, sym, refl, ap, ◌∙◌, ap₂, inl, inr, arith}
 use native.Mathlib.Nat.{sub-zero}
 use lib.Seq.{take-nil}
 use Rattle.std.proofs.lemmas.List.{get_or-set_same, length-map, length-set}
 use Rattle.std.proofs.lemmas.Bool.{cases_lt, lt-ltb, le-ltb}
 use Rattle.std.specs.Option.{option_map}
-use Rattle.frame.specs.Contents.{contents}
+use Rattle.frame.specs.Contents.{contents, frame_data, line_bits}
+use Rattle.frame.specs.Line.{line}
 use Rattle.frame.specs.declared.frame.Frame.{Frame}
+use Rattle.frame.specs.declared.line.Line.{Line}
 use Rattle.console.proofs.Apart.{unlike}
 use Rattle.console.proofs.RefusalLaws.{bad_byte_none, bad_letter_none}
-use Rattle.console.specs.Answers.{answer, line_reply, refused, reply, reply_of}
+use Rattle.console.specs.Answers.{answer, bits, line_reply, refused, reply, reply_of}
 use Rattle.console.specs.Commands.{Holds, Says, capped_reading}
 use Rattle.console.specs.Laws.{RefusedSame, LineOfLast, after_all, last_good, newer}
 use Rattle.console.specs.Numeral.{capped}
 use Rattle.console.specs.Places.{InPlace}
 use Rattle.console.specs.Reading.{Reading, blank, letter, current_line, unreadable}
-use Rattle.console.specs.Refusals.{bad_byte, bad_letter}
+use Rattle.console.specs.Refusals.{Judged, bad_byte, bad_letter}
 use Rattle.console.specs.Sessions.{State, current_letter, letter_at, kept_letter, no_letters, unless_refused, after}
-use Rattle.console.specs.declared.command.Command.TheVariants.{Blank, Letter, Line, Unreadable}
-use Rattle.console.specs.declared.numbers.Numbers.{Numbers}
+use Rattle.console.specs.declared.command.Command.TheVariants as Command
+use Rattle.console.specs.declared.command.Command.TheVariants.{Blank, Letter}
+use Rattle.console.specs.declared.letter.Letter as Declared
 use Rattle.console.specs.declared.refusal.Refusal.{Refusal}
-use Rattle.console.specs.declared.refusal.Refusal.TheVariants as Text
-use Rattle.console.specs.declared.refusal.Refusal.TheVariants.{Name, Count, Byte}
-use Rattle.console.specs.declared.text.Answer.{Answer}
-use Rattle.console.specs.declared.text.Answer.TheVariants.{Nothing, Refused}
+use Rattle.console.specs.declared.refusal.Refusal.TheVariants.{Name, Count, Byte, Unreadable}
 
 -- ---- capped numbers
 
@@ -111,55 +111,66 @@ filled old new len n x none zero-long e = e ∙ rw (none, zero-long, take-nil n,
 
 -- ---- what becomes of a line
 
-same_unless : (o : Option Refusal) (a b k : State) → (o ≡ None → a ≡ b) → unless_refused o a k ≡ unless_refused o b k
-same_unless None a b k same = same refl
-same_unless (Some x) a b k same = refl
-
 -- a and new are the answer to what was read as r in the line with the place p, and what is kept then, where k was kept
-pub record Becomes (p : ℕ) (r : Reading) (k : State) (a : Answer) (new : State) : Type 0 where
+pub record Becomes (p : ℕ) (r : Reading) (k : State) (a : Result (Option Line) Refusal) (new : State) : Type 0 where
   pub answered : reply a ≡ answer p r k
   pub kept : new ≡ after r k
 
-pub after_blank : (p : ℕ) (r : Reading) (k : State) → Says Blank (capped_reading r) → Becomes p r k Nothing k
+pub after_blank : (p : ℕ) (r : Reading) (k : State) → Says (Some Blank) (capped_reading r) → Becomes p r k (Ok None) k
 unfolding answer after
 after_blank p blank k says = record { answered = refl; kept = refl }
 after_blank p (letter n bs) k says = unlike says (omega arith)
 after_blank p current_line k says = unlike says (omega arith)
 after_blank p unreadable k says = unlike says (omega arith)
 
-pub after_unreadable : (p : ℕ) (r : Reading) (k : State) → Says Unreadable (capped_reading r) → Becomes p r k (Refused (Text.Unreadable p)) k
+pub after_unreadable : (p : ℕ) (r : Reading) (k : State) → Says None (capped_reading r) → Becomes p r k (Err (Unreadable p)) k
 unfolding answer after
 after_unreadable p blank k says = unlike says (omega arith)
 after_unreadable p (letter n bs) k says = unlike says (omega arith)
 after_unreadable p current_line k says = unlike says (omega arith)
 after_unreadable p unreadable k says = record { answered = refl; kept = refl }
 
-pub after_line : (p : ℕ) (r : Reading) (k : State) (a : Answer) → Says Line (capped_reading r) → reply a ≡ line_reply p (current_letter k) → Becomes p r k a k
+pub after_line : (p : ℕ) (r : Reading) (k : State) (f : Frame) (l : Line) → Says (Some Command.Line) (capped_reading r) → option_map contents (Some f) ≡ current_letter k → line_bits l ≡ line f.id (frame_data f)
+    → Becomes p r k (Ok (Some l)) k
 unfolding answer after
-after_line p blank k a says answers = unlike says (omega arith)
-after_line p (letter n bs) k a says answers = unlike says (omega arith)
-after_line p current_line k a says answers = record { answered = answers; kept = refl }
-after_line p unreadable k a says answers = unlike says (omega arith)
+after_line p blank k f l says current made = unlike says (omega arith)
+after_line p (letter n bs) k f l says current made = unlike says (omega arith)
+after_line p current_line k f l says current made = record { answered = ap bits made ∙ ap (line_reply p) current; kept = refl }
+after_line p unreadable k f l says current made = unlike says (omega arith)
 
-module _ (p : ℕ) (k new : State) (name : ℕ) (bytes : Numbers) (a : Answer) where
-  pub after_letter : (r : Reading) → Says (Letter name bytes) (capped_reading r)
-      → ((ns : List ℕ) → Holds bytes ns → reply a ≡ reply_of (bad_letter name ns))
-      → ((ns : List ℕ) → Holds bytes ns → new ≡ unless_refused (bad_letter name ns) (kept_letter name ns k) k)
-      → Becomes p r k a new
+pub after_no_line : (p : ℕ) (r : Reading) (k : State) → Says (Some Command.Line) (capped_reading r) → None ≡ current_letter k → Becomes p r k (Err (Unreadable p)) k
+unfolding answer after
+after_no_line p blank k says none = unlike says (omega arith)
+after_no_line p (letter n bs) k says none = unlike says (omega arith)
+after_no_line p current_line k says none = record { answered = ap (line_reply p) none; kept = refl }
+after_no_line p unreadable k says none = unlike says (omega arith)
+
+-- a letter that was read, and judged with its numbers capped
+module _ (p : ℕ) (k : State) (x : Declared.Letter) where
+  pub after_good : (r : Reading) (f : Frame) (new : State) → Says (Some (Letter x)) (capped_reading r) → ((ns : List ℕ) → Holds x.bytes ns → Judged x.name ns (Ok f)) → new ≡ kept_letter f.id (frame_data f) k
+      → Becomes p r k (Ok None) new
   unfolding answer after
-  after_letter blank (ns, is, holds) answers keeps = unlike is (omega arith)
-  after_letter current_line (ns, is, holds) answers keeps = unlike is (omega arith)
-  after_letter unreadable (ns, is, holds) answers keeps = unlike is (omega arith)
-  after_letter (letter n bs) (ns, is, holds) answers keeps =
-      let named : name ≡ capped n = cc in
+  after_good blank f new (ns, is, holds) judged keeps = unlike is (omega arith)
+  after_good current_line f new (ns, is, holds) judged keeps = unlike is (omega arith)
+  after_good unreadable f new (ns, is, holds) judged keeps = unlike is (omega arith)
+  after_good (letter n bs) f new (ns, is, holds) judged keeps =
+      let named : x.name ≡ capped n = cc in
       let these : ns ≡ map capped bs = cc in
-      let same = ap₂ bad_letter named these ∙ bad_letter-capped n bs in
-      record {
-        answered = answers ns holds ∙ ap reply_of same;
-        kept =
-            keeps ns holds ∙ (λ j. unless_refused (same j) (kept_letter (named j) (these j) k) k)
-            ∙ same_unless (bad_letter n bs) (kept_letter (capped n) (map capped bs) k) (kept_letter n bs k) k (good_letter_same n bs k);
-      }
+      let good : bad_letter n bs ≡ None = sym (bad_letter-capped n bs) ∙ sym (ap₂ bad_letter named these) ∙ (judged ns holds).0 in
+      let same : kept_letter f.id (frame_data f) k ≡ kept_letter n bs k =
+      ap (λ l. kept_letter l.0 l.1 k) ((judged ns holds).1) ∙ ap₂ (λ m ms. kept_letter m ms k) named these ∙ good_letter_same n bs k good in
+      record { answered = ap reply_of (sym good); kept = keeps ∙ same ∙ sym (ap (λ o. unless_refused o (kept_letter n bs k) k) good) }
+
+  pub after_bad : (r : Reading) (e : Refusal) → Says (Some (Letter x)) (capped_reading r) → ((ns : List ℕ) → Holds x.bytes ns → Judged x.name ns (Err e)) → Becomes p r k (Err e) k
+  unfolding answer after
+  after_bad blank e (ns, is, holds) judged = unlike is (omega arith)
+  after_bad current_line e (ns, is, holds) judged = unlike is (omega arith)
+  after_bad unreadable e (ns, is, holds) judged = unlike is (omega arith)
+  after_bad (letter n bs) e (ns, is, holds) judged =
+      let named : x.name ≡ capped n = cc in
+      let these : ns ≡ map capped bs = cc in
+      let bad : bad_letter n bs ≡ Some e = sym (bad_letter-capped n bs) ∙ sym (ap₂ bad_letter named these) ∙ judged ns holds in
+      record { answered = ap reply_of (sym bad); kept = sym (ap (λ o. unless_refused o (kept_letter n bs k) k) bad) }
 
 -- ---- laws
 

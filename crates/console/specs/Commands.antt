@@ -5,12 +5,14 @@
 --   capped_reading r   what was read as r, with its numbers capped
 --   Holds x ns         x holds the numbers ns, as far as it goes
 --   HoldsIf o ns       the same of numbers that may be missing: o holds numbers where there are some, and else none
---   Says k r           the command k says what was read as r
+--   SaysLetter o r     the letter o is what was read as r, which can't be read where there is none
+--   Says o r           the command o says what was read as r, which can't be read where there is none
 use Rattle.std.specs.Prelude.{◌≡◌, ℕ, List, map, length, take, Some, None, Option}
 use Rattle.console.specs.Numeral.{capped}
 use Rattle.console.specs.Reading.{Reading, blank, letter, current_line, unreadable}
 use Rattle.console.specs.declared.command.Command.{Command}
-use Rattle.console.specs.declared.command.Command.TheVariants.{Blank, Letter, Line, Unreadable}
+use Rattle.console.specs.declared.command.Command.TheVariants.{Blank, Letter, Line}
+use Rattle.console.specs.declared.letter.Letter as Declared
 use Rattle.console.specs.declared.numbers.Numbers.{Numbers}
 
 abbrev pub capped_reading : Reading → Reading
@@ -21,7 +23,7 @@ capped_reading unreadable = unreadable
 
 pub record Holds (x : Numbers) (ns : List ℕ) : Type 0 where
   pub count : x.count ≡ length ns
-  pub first : take x.count x.first ≡ take 8 ns
+  pub first : x.first.items ≡ take 8 ns
 
 abbrev pub HoldsIf : Option Numbers → Option (List ℕ) → Type 0
 HoldsIf None None = Unit {0}
@@ -29,8 +31,12 @@ HoldsIf None (Some ns) = ⊥
 HoldsIf (Some x) None = ⊥
 HoldsIf (Some x) (Some ns) = Holds x ns
 
-abbrev pub Says : Command → Reading → Type 0
-Says Blank r = r ≡ blank
-Says (Letter name bytes) r = (ns : List ℕ) × (r ≡ letter name ns) × Holds bytes ns
-Says Line r = r ≡ current_line
-Says Unreadable r = r ≡ unreadable
+abbrev pub SaysLetter : Option Declared.Letter → Reading → Type 0
+SaysLetter None r = r ≡ unreadable
+SaysLetter (Some x) r = (ns : List ℕ) × (r ≡ letter x.name ns) × Holds x.bytes ns
+
+abbrev pub Says : Option Command → Reading → Type 0
+Says None r = r ≡ unreadable
+Says (Some Blank) r = r ≡ blank
+Says (Some (Letter x)) r = SaysLetter (Some x) r
+Says (Some Line) r = r ≡ current_line

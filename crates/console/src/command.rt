@@ -1,11 +1,12 @@
 // A line of text read as a command.
 ghost use Rattle.std.specs.Prelude.{◌≡◌, map};
 ghost use Rattle.std.specs.Option.{option_map};
-ghost use Rattle.console.specs.Commands.{HoldsIf, Says, capped_reading};
+ghost use Rattle.console.specs.Commands.{HoldsIf, Says, SaysLetter, capped_reading};
 ghost use Rattle.console.specs.Numeral.{capped};
 ghost use Rattle.console.specs.Reading.{reading, letter_words, line_words, name_from, numbers, before_colon};
-ghost use Rattle.console.specs.Words.{words_behind};
+ghost use Rattle.console.specs.Words.{words, words_behind};
 
+use crate::letter::Letter;
 use crate::numbers::Numbers;
 use crate::numeral::read_number;
 use crate::words::cut_word;
@@ -16,56 +17,49 @@ const LINE: &[u8] = b"line";
 
 const COLON: &[u8] = b":";
 
-// What a line says. Nothing is known of its numbers yet, but that the largest of 64 bits stands for each larger one.
+// What a line says.
 #[derive(Clone, Copy)]
 pub enum Command {
     Blank,
-    Letter { name: u64, bytes: Numbers },
+    Letter(Letter),
     Line,
-    Unreadable,
 }
 
-// What a line with this text says.
-pub fn read_command(text: &[u8]) -> Command
+// What a line with this text says, if it can be read.
+pub fn read_command(text: &[u8]) -> Option<Command>
     ensures { Says result (capped_reading (reading text.now)) }
 {
     if text.is_empty() {
-        return Command::Blank;
+        return Some(Command::Blank);
     }
     let cut = cut_word(text);
     if cut.word == LETTER {
-        read_letter(cut.behind)
+        Some(Command::Letter(read_letter(cut.behind?)?))
     } else if cut.word == LINE {
         read_line(cut.behind)
     } else {
-        Command::Unreadable
+        None
     }
 }
 
-// What the command `letter` says, if `text` is what stands behind that word.
-fn read_letter(text: Option<&[u8]>) -> Command
-    ensures { Says result (capped_reading (letter_words (words_behind text.entry))) }
+// The letter, if `text` is what stands behind the word `letter` and a space.
+fn read_letter(text: &[u8]) -> Option<Letter>
+    ensures { SaysLetter result (capped_reading (letter_words (words text.now))) }
 {
-    let Some(text) = text else {
-        return Command::Unreadable;
-    };
     let cut = cut_word(text);
-    let Some(name) = read_name(cut.word) else {
-        return Command::Unreadable;
-    };
-    match read_numbers(cut.behind) {
-        Some(bytes) => Command::Letter { name, bytes },
-        None => Command::Unreadable,
-    }
+    Some(Letter {
+        name: read_name(cut.word)?,
+        bytes: read_numbers(cut.behind)?,
+    })
 }
 
-// What the command `line` says, if `text` is what stands behind that word.
-fn read_line(text: Option<&[u8]>) -> Command
+// The command `line`, if `text` is what stands behind that word.
+fn read_line(text: Option<&[u8]>) -> Option<Command>
     ensures { Says result (capped_reading (line_words (words_behind text.entry))) }
 {
     match text {
-        None => Command::Line,
-        Some(_) => Command::Unreadable,
+        None => Some(Command::Line),
+        Some(_) => None,
     }
 }
 

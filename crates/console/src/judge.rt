@@ -1,43 +1,43 @@
-// A letter, judged: a frame if it is good, else a refusal.
-ghost use Rattle.std.specs.Prelude.{ℕ, ◌≤◌, List, length};
+// A letter, judged: a frame if it is good, else a refusal. A name above 2047 is refused first, then more than eight bytes, then
+// a byte above 255.
+ghost use Rattle.std.specs.Prelude.{◌≡◌, ℕ, ◌≤◌, List, length, Some, None, MatchResult};
 ghost use Rattle.console.specs.Commands.{Holds};
-ghost use Rattle.console.specs.Refusals.{Judged};
+ghost use Rattle.console.specs.Refusals.{Judged, bad_byte};
 
-use crate::numbers::Numbers;
+use crate::letter::Letter;
 use crate::refusal::Refusal;
 use frame::{Frame, MOST_BYTES};
+use row::Row;
 
 const LARGEST_NAME: u64 = 2047;
 
-const LARGEST_BYTE: u64 = 255;
+impl TryFrom<Letter> for Frame {
+    type Error = Refusal;
 
-// The frame of the letter with this name and these bytes. A name above 2047 is refused first, then more than eight bytes,
-// then a byte above 255.
-pub fn judge(name: u64, bytes: &Numbers) -> Result<Frame, Refusal>
-    ensures { (ns : List ℕ) → Holds bytes.now ns → Judged name ns result }
-{
-    if name > LARGEST_NAME {
-        return Err(Refusal::Name);
+    ghost try_from_gives = { λ letter r. (ns : List ℕ) → Holds letter.bytes ns → Judged letter.name ns r };
+
+    fn try_from(letter: Letter) -> Result<Frame, Refusal> {
+        if letter.name > LARGEST_NAME {
+            return Err(Refusal::Name);
+        }
+        let count = letter.bytes.count;
+        if count > MOST_BYTES {
+            return Err(Refusal::Count(count as u64));
+        }
+        let bytes = bytes_of(letter.bytes.first.as_slice())?;
+        Ok(Frame::new(letter.name, bytes.as_slice()).unwrap())
     }
-    let count = bytes.count;
-    if count > MOST_BYTES {
-        return Err(Refusal::Count(count as u64));
-    }
-    judge_bytes(name, &bytes.first[0..count])
 }
 
-// The same of a letter whose name and number of bytes are good.
-fn judge_bytes(name: u64, bytes: &[u64]) -> Result<Frame, Refusal>
-    requires name { name ≤ 2047 }
-    requires few { length bytes.now ≤ 8 }
-    ensures { Judged name bytes.now result }
+// The bytes that the numbers are, if all of them are bytes.
+fn bytes_of(numbers: &[u64]) -> Result<Row<u8, MOST_BYTES>, Refusal>
+    requires { length numbers.now ≤ 8 }
+    ensures { MatchResult result (λ row. (bad_byte 0 numbers.now ≡ None) × (row.items ≡ numbers.now)) (λ x. bad_byte 0 numbers.now ≡ Some x) }
 {
-    let mut data = [0u8; MOST_BYTES];
-    for (i, byte) in bytes.iter().enumerate() {
-        if *byte > LARGEST_BYTE {
-            return Err(Refusal::Byte(i as u64));
-        }
-        data[i] = *byte as u8;
+    let mut bytes = Row::new();
+    for (i, number) in numbers.iter().enumerate() {
+        let byte = u8::try_from(*number).map_err(|_| Refusal::Byte(i as u64))?;
+        bytes.push(byte).unwrap();
     }
-    Ok(Frame::new(name, &data[0..bytes.len()]).unwrap())
+    Ok(bytes)
 }

@@ -5,6 +5,7 @@ mod answer;
 mod command;
 mod judge;
 pub mod laws;
+mod letter;
 mod numbers;
 mod numeral;
 mod refusal;
@@ -14,4 +15,4 @@ mod words;
 
 pub use refusal::Refusal;
 pub use session::Session;
-pub use text::Answer;
+pub use text::Printed;

@@ -1,14 +1,16 @@
-// The numbers behind a letter's name, in fixed memory: how many there are, and the first eight of them. A letter has no use
-// for more, since one with more than eight bytes isn't good whatever they are.
+// The numbers behind a letter's name: how many there are, and the first eight of them. A letter has no use for more, since one
+// with more than eight bytes isn't good whatever they are. They lie in fixed memory, since a line is answered even where there
+// is no memory left.
 ghost use Rattle.std.specs.Prelude.{◌≡◌, ℕ, ◌+◌, ◌^◌, ◌<◌, List, [], ◌∷◌, ◌++◌};
 ghost use Rattle.console.specs.Commands.{Holds};
 
 use frame::MOST_BYTES;
+use row::Row;
 
 #[derive(Clone, Copy)]
 pub struct Numbers {
     pub(crate) count: usize,
-    pub(crate) first: [u64; MOST_BYTES],
+    pub(crate) first: Row<u64, MOST_BYTES>,
 }
 
 impl Numbers {
@@ -18,19 +20,17 @@ impl Numbers {
     {
         Numbers {
             count: 0,
-            first: [0; MOST_BYTES],
+            first: Row::new(),
         }
     }
 
-    // One number more.
+    // One number more, which is only counted where the row is full.
     pub(crate) fn push(&mut self, number: u64)
         requires { self.old.count + 1 < 2 ^ 64 }
         ensures count { self.new.count ≡ self.old.count + 1 }
         ensures holds { (ns : List ℕ) → Holds self.old ns → Holds self.new (ns ++ number ∷ []) }
     {
-        if self.count < MOST_BYTES {
-            self.first[self.count] = number;
-        }
+        let _ = self.first.push(number);
         self.count += 1;
     }
 }

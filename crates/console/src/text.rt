@@ -1,4 +1,4 @@
-// Answers, and their text, with its lines' ends.
+// The text of an answer, with its lines' ends.
 ghost use Rattle.std.specs.Prelude.{Some};
 ghost use Rattle.console.specs.Answers.{reply, reply_text};
 
@@ -6,24 +6,18 @@ use crate::refusal::Refusal;
 use frame::Line;
 use std::fmt;
 
-// What is answered to a line.
+// An answer as it is printed: nothing where there is nothing to say, else the current letter's line or a refusal.
 #[derive(Clone, Copy, Debug, PartialEq, Eq)]
-pub enum Answer {
-    // The line was done, and there is nothing to say.
-    Nothing,
-    // The current letter's line.
-    Line(Line),
-    Refused(Refusal),
-}
+pub struct Printed(pub Result<Option<Line>, Refusal>);
 
-impl fmt::Display for Answer {
-    ghost output = { λ a. Some (reply_text (reply a)) };
+impl fmt::Display for Printed {
+    ghost output = { λ p. Some (reply_text (reply p.0)) };
 
     fn fmt<W: fmt::Write>(&self, f: &mut fmt::Formatter<W>) -> fmt::Result {
-        match self {
-            Answer::Nothing => write!(f, ""),
-            Answer::Line(line) => writeln!(f, "{line}"),
-            Answer::Refused(refusal) => {
+        match self.0 {
+            Ok(None) => Ok(()),
+            Ok(Some(line)) => writeln!(f, "{line}"),
+            Err(refusal) => {
                 let number = refusal.number();
                 let place = refusal.place();
                 writeln!(f, "refused {number} at {place}")

@@ -1,7 +1,7 @@
 // The program: lines from standard input, each answered on standard output.
 #![tactic(auto)]
 
-use console::Session;
+use console::{Printed, Session};
 use std::io::{BufRead, BufReader, BufWriter, Write};
 
 const LINE_FEED: u8 = b'\n';
@@ -29,7 +29,7 @@ fn run(rt: &HostRuntime) -> anyhow::Result<()> {
             break;
         }
         let text = line.strip_suffix(LINE_END).unwrap_or(&line);
-        let answer = session.answer(text, place);
+        let answer = Printed(session.answer(text, place));
         write!(output, "{answer}")?;
     }
     output.flush()?;

@@ -1,0 +1,7 @@
+-- The numbers before i are bytes, and are the row's.
+use Rattle.std.proofs.Common.{◌≡◌, take}
+use Rattle.console.proofs.RefusalLaws.{GoodTo}
+use Rattle.console.proofs.judge.bytes_of.Given as goal
+
+abbrev pub invariant-loop-i : goal.invariant-loop-i
+invariant-loop-i l = GoodTo l.numbers l.i-counter × (l.bytes.items ≡ take l.i-counter l.numbers)

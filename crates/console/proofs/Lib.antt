@@ -1,5 +1,4 @@
 pub mod Apart
-pub mod WordLaws
 pub mod NumeralLaws
 pub mod ReadingLaws
 pub mod RefusalLaws

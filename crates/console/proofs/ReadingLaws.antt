@@ -1,13 +1,14 @@
 -- A command read word by word: a name before its colon (`before_colon_push`, `before_colon_none`), numbers one after the other
 -- (`found_all`, `found_other`), and the whole line.
 -- Assumes nothing.
-use Rattle.std.proofs.Common.{◌≡◌, ℕ, ◌+◌, ◌<◌, ◌≤◌, Bool, true, false, cond, eqb, List, [], ◌∷◌, ◌++◌, map, length, take, set, Some, None, codes, Option, sym, refl, ap, ◌∙◌, subst, append_assoc, append-nil, arith, eqb-true}
+use Rattle.std.proofs.Common.{◌≡◌, ℕ, ◌+◌, ◌<◌, ◌≤◌, Bool, true, false, cond, eqb, List, [], ◌∷◌, ◌++◌, map, length, get_or, drop, Some, None, codes, Option, sym, refl, ap, ◌∙◌, subst, append_assoc, append-nil, arith, eqb-true}
 use Rattle.std.proofs.lemmas.Slice.Eq.{bytes_eq-Decides}
-use Rattle.std.proofs.lemmas.List.{length_push, map_push, take_all, take-append-le, take_more_set}
+use Rattle.std.proofs.lemmas.List.{at_drop_more, at_drop_all, map_push}
+use Rattle.std.proofs.lemmas.Iterator.Adapters.{option_map_id}
 use Rattle.std.specs.Option.{option_map}
 use Rattle.std.specs.Str.{bytes_eq}
 use Rattle.console.proofs.Apart.{none_some, some_none, sort}
-use Rattle.console.specs.Commands.{Holds, HoldsIf, SaysLetter, capped_reading}
+use Rattle.console.specs.Commands.{Holds, SaysLetter, capped_reading}
 use Rattle.console.specs.Numeral.{number_in, capped}
 use Rattle.console.specs.Reading.{Reading, reading, command_words, letter_words, letter_of, line_words, name_from, before_colon, in_front, numbers, blank, unreadable}
 use Rattle.console.specs.Words.{words}
@@ -57,47 +58,50 @@ before_colon_none w never = either (before_colon w) refl
 
 -- ---- numbers, one word after the other
 
--- the numbers found so far are the first of those that the words ws are; the words rest are left
-pub record Found (ws : List (List ℕ)) (found : Numbers) (rest : List (List ℕ)) : Type 0 where
+-- the numbers found so far are those that the first k of the words ws are
+pub record Found (ws : List (List ℕ)) (found : Numbers) (k : ℕ) : Type 0 where
   pub done : List ℕ
+  pub counted : found.count ≡ k
   pub kept : Holds found (map capped done)
-  pub left : numbers ws ≡ option_map (λ more. done ++ more) (numbers rest)
+  pub left : numbers ws ≡ option_map (λ more. done ++ more) (numbers (drop k ws))
 
 mapped_front : (done : List ℕ) (n : ℕ) (o : Option (List ℕ)) → option_map (λ more. done ++ more) (in_front (Some n) o) ≡ option_map (λ more. (done ++ (n ∷ [])) ++ more) o
 unfolding in_front
 mapped_front done n None = refl
 mapped_front done n (Some x) = ap Some (sym (append_assoc done (n ∷ []) x))
 
-module _ (ws : List (List ℕ)) (found : Numbers) (rest : List (List ℕ)) (so_far : Found ws found rest) where
-  pub found_more : (w : List ℕ) (more : List (List ℕ)) (n : ℕ) (now-found : Numbers) → rest ≡ w ∷ more → Some n ≡ option_map capped (number_in w)
-      → ((ns : List ℕ) → Holds found ns → Holds now-found (ns ++ (n ∷ []))) → Found ws now-found more
-  unfolding numbers
-  found_more w more n now-found cut read pushed =
-      let number = mapped_some capped (number_in w) n (sym read) in
-      let m = number.0 in
-      let these = ap (λ k. map capped so_far.done ++ (k ∷ [])) (sym number.2) ∙ sym (map_push capped so_far.done m) in
-      record {
-        done = so_far.done ++ (m ∷ []);
-        kept = subst (Holds now-found) these (pushed (map capped so_far.done) so_far.kept);
-        left =
-            so_far.left ∙ ap (λ l. option_map (λ tail. so_far.done ++ tail) (numbers l)) cut
-            ∙ ap (λ o. option_map (λ tail. so_far.done ++ tail) (in_front o (numbers more))) number.1
-            ∙ mapped_front so_far.done m (numbers more);
-      }
+pub found_none : (ws : List (List ℕ)) (found : Numbers) → Holds found [] → Found ws found 0
+found_none ws found holds = record { done = []; counted = holds.count; kept = holds; left = sym (option_map_id (numbers ws)) }
 
-  pub found_other : (w : List ℕ) (more : List (List ℕ)) → rest ≡ w ∷ more → None ≡ option_map capped (number_in w) → HoldsIf None (option_map (map capped) (numbers ws))
-  unfolding numbers in_front
-  found_other w more cut other =
-      let none =
-      so_far.left ∙ ap (λ l. option_map (λ tail. so_far.done ++ tail) (numbers l)) cut
-      ∙ ap (λ o. option_map (λ tail. so_far.done ++ tail) (in_front o (numbers more))) (mapped_none capped (number_in w) (sym other)) in
-      rw none tt
+module _ (ws : List (List ℕ)) (found : Numbers) (k : ℕ) (so_far : Found ws found k) where
+  -- the next word is w
+  module _ (w : List ℕ) (inside : k < length ws) (next : w ≡ get_or ws k w) where
+    on_word : numbers ws ≡ option_map (λ more. so_far.done ++ more) (in_front (number_in w) (numbers (drop (k + 1) ws)))
+    unfolding numbers
+    on_word =
+        so_far.left ∙ at_drop_more (λ rest. option_map (λ more. so_far.done ++ more) (numbers rest)) ws k w inside
+        ∙ ap (λ v. option_map (λ more. so_far.done ++ more) (in_front (number_in v) (numbers (drop (k + 1) ws)))) (sym next)
 
-  pub found_all : rest ≡ [] → HoldsIf (Some found) (option_map (map capped) (numbers ws))
+    pub found_more : (n : ℕ) (more : Numbers) → Some n ≡ option_map capped (number_in w) → more.count ≡ found.count + 1 → ((ns : List ℕ) → Holds found ns → Holds more (ns ++ (n ∷ []))) → Found ws more (k + 1)
+    found_more n more read counted pushed =
+        let number = mapped_some capped (number_in w) n (sym read) in
+        let these = ap (λ m. map capped so_far.done ++ (m ∷ [])) (sym number.2) ∙ sym (map_push capped so_far.done number.0) in
+        record {
+          done = so_far.done ++ (number.0 ∷ []);
+          counted = counted ∙ ap (λ m. m + 1) so_far.counted;
+          kept = subst (Holds more) these (pushed (map capped so_far.done) so_far.kept);
+          left =
+              on_word ∙ ap (λ o. option_map (λ more. so_far.done ++ more) (in_front o (numbers (drop (k + 1) ws)))) number.1
+              ∙ mapped_front so_far.done number.0 (numbers (drop (k + 1) ws));
+        }
+
+    pub found_other : None ≡ option_map capped (number_in w) → numbers ws ≡ None
+    unfolding in_front
+    found_other other = on_word ∙ ap (λ o. option_map (λ more. so_far.done ++ more) (in_front o (numbers (drop (k + 1) ws)))) (mapped_none capped (number_in w) (sym other))
+
+  pub found_all : length ws ≤ k → numbers ws ≡ Some so_far.done
   unfolding numbers
-  found_all end =
-      let all = so_far.left ∙ ap (λ l. option_map (λ tail. so_far.done ++ tail) (numbers l)) end ∙ ap Some (append-nil so_far.done) in
-      rw all so_far.kept
+  found_all end = so_far.left ∙ at_drop_all (λ rest. option_map (λ more. so_far.done ++ more) (numbers rest)) ws k end ∙ ap Some (append-nil so_far.done)
 
 -- ---- a letter
 
@@ -113,19 +117,18 @@ unfolding letter_words
 letter_capped ws w more cut = ap (λ l. capped_reading (letter_words l)) cut ∙ letter_of-capped (name_from (before_colon w)) (numbers more)
 
 -- what a letter says, by what could be read of it
-pub says_no_name : (r : Reading) (name : Option ℕ) (bytes : Option (List ℕ)) → r ≡ letter_of name bytes → None ≡ name → SaysLetter None r
-unfolding letter_of
-says_no_name r name bytes is none = rw (is, ← none) refl
+module _ (r : Reading) (name : Option ℕ) (bytes : Option (List ℕ)) (is : r ≡ letter_of name (option_map (map capped) bytes)) where
+  pub says_no_name : None ≡ name → SaysLetter None r
+  unfolding letter_of
+  says_no_name none = rw (is, ← none) refl
 
-pub says_no_bytes : (r : Reading) (name : Option ℕ) (n : ℕ) (bytes : Option (List ℕ)) → r ≡ letter_of name bytes → Some n ≡ name → HoldsIf None bytes → SaysLetter None r
-unfolding letter_of
-says_no_bytes r name n None is named holds = rw (is, ← named) refl
-says_no_bytes r name n (Some ns) is named holds = absurd holds
+  pub says_no_bytes : (n : ℕ) → Some n ≡ name → bytes ≡ None → SaysLetter None r
+  unfolding letter_of
+  says_no_bytes n named none = rw (is, ← named, none) refl
 
-pub says_letter : (r : Reading) (name : Option ℕ) (n : ℕ) (bytes : Option (List ℕ)) (x : Numbers) → r ≡ letter_of name bytes → Some n ≡ name → HoldsIf (Some x) bytes → SaysLetter (Some (record { name = n; bytes = x })) r
-unfolding letter_of
-says_letter r name n None x is named holds = absurd holds
-says_letter r name n (Some ns) x is named holds = (ns, rw (is, ← named) refl, holds)
+  pub says_letter : (n : ℕ) (x : Numbers) (ns : List ℕ) → Some n ≡ name → bytes ≡ Some ns → Holds x (map capped ns) → SaysLetter (Some (record { name = n; bytes = x })) r
+  unfolding letter_of
+  says_letter n x ns named these holds = (map capped ns, rw (is, ← named, these) refl, holds)
 
 -- ---- which command it is
 

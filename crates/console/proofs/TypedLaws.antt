@@ -1,53 +1,35 @@
 -- What is typed is read (`typed_is_read`), and what is read was typed (`read_was_typed`, `line_was_typed`, `blank_is_empty`): the
 -- console's language, from outside.
 -- Assumes nothing.
-use Rattle.std.proofs.Common.{◌≡◌, ℕ, Bool, true, false, cond, eqb, List, [], ◌∷◌, ◌++◌, map, length, Some, None, codes, Option, sym, refl, ap, ◌∙◌, ap₂, arith, ne_eqb, eqb-true}
+use Rattle.std.proofs.Common.{◌≡◌, ℕ, Bool, true, false, cond, eqb, List, [], ◌∷◌, ◌++◌, map, length, Some, None, codes, Option, ◌≢◌, sym, refl, ap, ◌∙◌, ap₂, arith, ne_eqb, eqb-true}
 use Rattle.std.proofs.lemmas.Bool.{and_parts, leb-true}
+use Rattle.std.proofs.lemmas.List.Elements.{All-from_recursion, All-weaker}
+use Rattle.std.proofs.lemmas.List.Splits.{join_with_byte-slice_split, slice_split_at, slice_split_none}
 use Rattle.std.specs.Char.{is_ascii_digit}
-use Rattle.std.specs.List.{AllByRecursion}
+use Rattle.std.specs.List.{All, AllByRecursion}
 use Rattle.std.specs.Str.{all_ascii_digits}
 use Rattle.console.proofs.Apart.{none_some, unlike}
 use Rattle.console.proofs.ReadingLaws.{mapped_some, before_colon_push, before_colon_some, command_cases, command_letter, letter_never, line_never, reading_some}
-use Rattle.console.proofs.WordLaws.{words_at_other, words_some}
 use Rattle.console.specs.Laws.{SpacedWords, WordsSpaced, BlankIsEmpty, Unspaced, IsNumeral, typed, TypedIsRead, ReadWasTyped, LineWasTyped}
 use Rattle.console.specs.Numeral.{numeral, value, number_in}
-use Rattle.console.specs.Reading.{reading, command_words, letter_words, letter_of, line_words, name_from, before_colon, in_front, numbers, blank, letter, current_line}
-use Rattle.console.specs.Words.{words, spaced, onto_first}
+use Rattle.console.specs.Reading.{reading, command_words, letter_words, letter_of, line_words, name_from, before_colon, in_front, numbers, Reading, blank, letter, current_line, unreadable}
+use Rattle.console.specs.Words.{words, spaced}
 
 -- ---- words and spaces
 
-spaced_onto : (c : ℕ) (ws : List (List ℕ)) → spaced (onto_first c ws) ≡ c ∷ spaced ws
-unfolding spaced onto_first
-spaced_onto c [] = refl
-spaced_onto c (w ∷ []) = refl
-spaced_onto c (w ∷ v ∷ ws) = refl
-
-spaced_space : (ws : List (List ℕ)) → (ws ≡ [] → ⊥) → spaced ([] ∷ ws) ≡ 32 ∷ spaced ws
-unfolding spaced
-spaced_space [] some = absurd (some refl)
-spaced_space (w ∷ ws) some = refl
-
 pub spaced-words : SpacedWords
-unfolding words spaced
-spaced-words [] = refl
-spaced-words (c ∷ cs) = either (eqb c 32) refl (spaced-words cs)
-  where
-    either : (b : Bool) → eqb c 32 ≡ b → spaced (words cs) ≡ cs → spaced (cond b ([] ∷ words cs) (onto_first c (words cs))) ≡ c ∷ cs
-    either true is rest = spaced_space (words cs) (words_some cs) ∙ (λ i. sym (eqb-true c 32 is) i ∷ rest i)
-    either false is rest = spaced_onto c (words cs) ∙ ap (λ t. c ∷ t) rest
+spaced-words t = join_with_byte-slice_split 32 t
+
+no_space : (w : List ℕ) → Unspaced w → All (λ c. eqb c 32 ≡ false) w
+no_space w free = All-weaker (λ c. c ≢ 32) (λ c. eqb c 32 ≡ false) (λ c other. ne_eqb c 32 other) w (All-from_recursion (λ c. c ≢ 32) w free)
 
 words_one : (w : List ℕ) → Unspaced w → words w ≡ w ∷ []
-unfolding words onto_first
-words_one [] free = refl
-words_one (c ∷ w) free = words_at_other c w (ne_eqb c 32 free.0) ∙ ap (onto_first c) (words_one w free.1)
+words_one w free = slice_split_none (λ c. eqb c 32) w (no_space w free)
 
 words_first : (w t : List ℕ) → Unspaced w → words (w ++ (32 ∷ t)) ≡ w ∷ words t
-unfolding words onto_first
-words_first [] t free = refl
-words_first (c ∷ w) t free = words_at_other c (w ++ (32 ∷ t)) (ne_eqb c 32 free.0) ∙ ap (onto_first c) (words_first w t free.1)
+words_first w t free = slice_split_at (λ c. eqb c 32) w 32 t (no_space w free) refl
 
 pub words-spaced : WordsSpaced
-unfolding spaced
 words-spaced w [] free frees = words_one w free
 words-spaced w (v ∷ ws) free frees = words_first w (spaced (v ∷ ws)) free ∙ ap (λ l. w ∷ l) (words-spaced v ws frees.0 frees.1)
 
@@ -109,7 +91,7 @@ letter_unspaced : Unspaced (codes "letter")
 letter_unspaced = (λ e. omega arith, (λ e. omega arith, (λ e. omega arith, (λ e. omega arith, (λ e. omega arith, (λ e. omega arith, tt))))))
 
 typed_some : (d : List ℕ) (ds : List (List ℕ)) → length (typed d ds) ≡ 0 → ⊥
-unfolding typed spaced
+unfolding typed
 typed_some d ds e = omega arith
 
 pub typed_is_read : TypedIsRead
@@ -191,7 +173,7 @@ line-typed (w ∷ ws) e =
     command_cases w ws current_line e (λ is e. letter_never ws e (omega arith) (omega arith)) (λ is e. ap₂ ◌∷◌ is (line_alone ws e)) (λ e. unlike e (omega arith))
 
 pub line_was_typed : LineWasTyped
-unfolding reading spaced
+unfolding reading
 line_was_typed [] e = unlike e (omega arith)
 line_was_typed (c ∷ cs) e = sym (spaced-words (c ∷ cs)) ∙ ap spaced (line-typed (words (c ∷ cs)) e)
 
@@ -207,3 +189,24 @@ pub blank_is_empty : BlankIsEmpty
 unfolding reading
 blank_is_empty [] e = refl
 blank_is_empty (c ∷ cs) e = absurd (command_not_blank (words (c ∷ cs)) e)
+
+-- ---- which command a text is
+
+pub reading_line : reading (codes "line") ≡ current_line
+unfolding reading command_words line_words
+reading_line = refl
+
+pub reading_letter : (t rest : List ℕ) → t ≡ codes "letter " ++ rest → reading t ≡ letter_words (words rest)
+reading_letter t rest is =
+    reading_some t (λ none. omega (arith, none, ap length is)) ∙ ap command_words (ap words is ∙ words_first (codes "letter") rest letter_unspaced)
+    ∙ command_letter (codes "letter") (words rest) refl
+
+pub reading_other : (t : List ℕ) → (t ≡ [] → ⊥) → (t ≡ codes "line" → ⊥) → ((rest : List ℕ) → t ≡ codes "letter " ++ rest → ⊥) → reading t ≡ unreadable
+unfolding typed
+reading_other t some not_line not_letter = each (reading t) refl
+  where
+    each : (r : Reading) → reading t ≡ r → reading t ≡ unreadable
+    each blank e = absurd (some (blank_is_empty t e))
+    each (letter n bs) e = let so = read_was_typed t n bs e in absurd (not_letter (spaced ((so.0 ++ codes ":") ∷ so.1)) so.4)
+    each current_line e = absurd (not_line (line_was_typed t e))
+    each unreadable e = e

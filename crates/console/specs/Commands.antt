@@ -4,7 +4,6 @@
 --
 --   capped_reading r   what was read as r, with its numbers capped
 --   Holds x ns         x holds the numbers ns, as far as it goes
---   HoldsIf o ns       the same of numbers that may be missing: o holds numbers where there are some, and else none
 --   SaysLetter o r     the letter o is what was read as r, which can't be read where there is none
 --   Says o r           the command o says what was read as r, which can't be read where there is none
 use Rattle.std.specs.Prelude.{◌≡◌, ℕ, List, map, length, take, Some, None, Option}
@@ -24,12 +23,6 @@ capped_reading unreadable = unreadable
 pub record Holds (x : Numbers) (ns : List ℕ) : Type 0 where
   pub count : x.count ≡ length ns
   pub first : x.first.items ≡ take 8 ns
-
-abbrev pub HoldsIf : Option Numbers → Option (List ℕ) → Type 0
-HoldsIf None None = Unit {0}
-HoldsIf None (Some ns) = ⊥
-HoldsIf (Some x) None = ⊥
-HoldsIf (Some x) (Some ns) = Holds x ns
 
 abbrev pub SaysLetter : Option Declared.Letter → Reading → Type 0
 SaysLetter None r = r ≡ unreadable

@@ -1,19 +1,21 @@
 // A line of text read as a command.
-ghost use Rattle.std.specs.Prelude.{◌≡◌, map};
+ghost use Rattle.std.specs.Prelude.{◌≡◌};
 ghost use Rattle.std.specs.Option.{option_map};
-ghost use Rattle.console.specs.Commands.{HoldsIf, Says, SaysLetter, capped_reading};
+ghost use Rattle.console.specs.Commands.{Says, SaysLetter, capped_reading};
 ghost use Rattle.console.specs.Numeral.{capped};
-ghost use Rattle.console.specs.Reading.{reading, letter_words, line_words, name_from, numbers, before_colon};
-ghost use Rattle.console.specs.Words.{words, words_behind};
+ghost use Rattle.console.specs.Reading.{reading, letter_words, name_from, before_colon};
+ghost use Rattle.console.specs.Words.{words};
 
 use crate::letter::Letter;
 use crate::numbers::Numbers;
 use crate::numeral::read_number;
-use crate::words::cut_word;
-
-const LETTER: &[u8] = b"letter";
 
 const LINE: &[u8] = b"line";
+
+// A letter begins with this word, and a space behind it.
+const LETTER: &[u8] = b"letter ";
+
+const SPACE: u8 = b' ';
 
 const COLON: &[u8] = b":";
 
@@ -32,35 +34,24 @@ pub fn read_command(text: &[u8]) -> Option<Command>
     if text.is_empty() {
         return Some(Command::Blank);
     }
-    let cut = cut_word(text);
-    if cut.word == LETTER {
-        Some(Command::Letter(read_letter(cut.behind?)?))
-    } else if cut.word == LINE {
-        read_line(cut.behind)
-    } else {
-        None
+    if text == LINE {
+        return Some(Command::Line);
     }
+    let letter = read_letter(text.strip_prefix(LETTER)?)?;
+    Some(Command::Letter(letter))
 }
 
-// The letter, if `text` is what stands behind the word `letter` and a space.
+// The letter, if `text` is what stands behind the word `letter` and its space: a name, and numbers.
 fn read_letter(text: &[u8]) -> Option<Letter>
     ensures { SaysLetter result (capped_reading (letter_words (words text.now))) }
 {
-    let cut = cut_word(text);
-    Some(Letter {
-        name: read_name(cut.word)?,
-        bytes: read_numbers(cut.behind)?,
-    })
-}
-
-// The command `line`, if `text` is what stands behind that word.
-fn read_line(text: Option<&[u8]>) -> Option<Command>
-    ensures { Says result (capped_reading (line_words (words_behind text.entry))) }
-{
-    match text {
-        None => Some(Command::Line),
-        Some(_) => None,
+    let mut words = text.split(|b| *b == SPACE);
+    let name = read_name(words.next()?)?;
+    let mut bytes = Numbers::new();
+    for word in words {
+        bytes.push(read_number(word)?);
     }
+    Some(Letter { name, bytes })
 }
 
 // The number in a word that a colon ends.
@@ -68,18 +59,4 @@ fn read_name(word: &[u8]) -> Option<u64>
     ensures { result ≡ option_map capped (name_from (before_colon word.now)) }
 {
     read_number(word.strip_suffix(COLON)?)
-}
-
-// The numbers that the words of `text` are, if all of them are numbers.
-fn read_numbers(text: Option<&[u8]>) -> Option<Numbers>
-    ensures { HoldsIf result (option_map (map capped) (numbers (words_behind text.entry))) }
-{
-    let mut found = Numbers::new();
-    let mut rest = text;
-    while let Some(text) = rest {
-        let cut = cut_word(text);
-        found.push(read_number(cut.word)?);
-        rest = cut.behind;
-    }
-    Some(found)
 }

@@ -11,7 +11,6 @@ mod numeral;
 mod refusal;
 mod session;
 mod text;
-mod words;
 
 pub use refusal::Refusal;
 pub use session::Session;

@@ -1,4 +1,3 @@
-pub mod Apart
 pub mod NumeralLaws
 pub mod ReadingLaws
 pub mod RefusalLaws

@@ -1,33 +1,29 @@
 -- A command read word by word: a name before its colon (`before_colon_push`, `before_colon_none`), numbers one after the other
 -- (`found_all`, `found_other`), and the whole line.
 -- Assumes nothing.
-use Rattle.std.proofs.Common.{◌≡◌, ℕ, ◌+◌, ◌<◌, ◌≤◌, Bool, true, false, cond, eqb, List, [], ◌∷◌, ◌++◌, map, length, get_or, drop, Some, None, codes, Option, sym, refl, ap, ◌∙◌, subst, append_assoc, append-nil, arith, eqb-true}
+use Rattle.std.proofs.Common.{◌≡◌, ℕ, ◌+◌, ◌<◌, ◌≤◌, Bool, true, false, cond, eqb, List, [], ◌∷◌, ◌++◌, ◌⊎◌, inl, inr, map, length, get_or, drop, Some, None, codes, Option, sym, refl, ap, ◌∙◌, subst, append_assoc, append-nil, arith, eqb-true}
+use Rattle.std.proofs.lemmas.Bool.{false_from_ne_true}
 use Rattle.std.proofs.lemmas.Slice.Eq.{bytes_eq-Decides}
 use Rattle.std.proofs.lemmas.List.{at_drop_more, at_drop_all, map_push}
 use Rattle.std.proofs.lemmas.Iterator.Adapters.{option_map_id}
 use Rattle.std.specs.Option.{option_map}
 use Rattle.std.specs.Str.{bytes_eq}
-use Rattle.console.proofs.Apart.{none_some, some_none, sort}
 use Rattle.console.specs.Commands.{Holds, SaysLetter, capped_reading}
 use Rattle.console.specs.Numeral.{number_in, capped}
-use Rattle.console.specs.Reading.{Reading, reading, command_words, letter_words, letter_of, line_words, name_from, before_colon, in_front, numbers, blank, unreadable}
+use Rattle.console.specs.Reading.{Reading, reading, command_words, letter_words, letter_of, line_words, name_from, before_colon, in_front, numbers, blank, letter, current_line, unreadable}
 use Rattle.console.specs.Words.{words}
 use Rattle.console.specs.declared.numbers.Numbers.{Numbers}
-
-not-true : (b : Bool) → (b ≡ true → ⊥) → b ≡ false
-not-true true h = absurd (h refl)
-not-true false h = refl
 
 -- ---- what may be missing
 
 module _ {A B : Type 0} (f : A → B) where
   pub mapped_some : (o : Option A) (y : B) → option_map f o ≡ Some y → (x : A) × (o ≡ Some x) × (f x ≡ y)
-  mapped_some None y e = none_some e
+  mapped_some None y e = cc
   mapped_some (Some x) y e = (x, refl, cc)
 
   pub mapped_none : (o : Option A) → option_map f o ≡ None → o ≡ None
   mapped_none None e = refl
-  mapped_none (Some x) e = some_none e
+  mapped_none (Some x) e = cc
 
 -- ---- the colon behind a name
 
@@ -39,12 +35,12 @@ before_colon_push (c ∷ e ∷ d) = ap (option_map (λ front. c ∷ front)) (bef
 
 pub before_colon_some : (w d : List ℕ) → before_colon w ≡ Some d → w ≡ d ++ (58 ∷ [])
 unfolding before_colon
-before_colon_some [] d e = none_some e
+before_colon_some [] d e = cc
 before_colon_some (c ∷ []) d e = last (eqb c 58) refl e
   where
     last : (b : Bool) → eqb c 58 ≡ b → cond b (Some []) None ≡ Some d → c ∷ [] ≡ d ++ (58 ∷ [])
     last true is e = let none : d ≡ [] = cc in rw (none, eqb-true c 58 is)
-    last false is e = none_some e
+    last false is e = cc
 before_colon_some (c ∷ f ∷ w) d e =
     let front = mapped_some (λ front. c ∷ front) (before_colon (f ∷ w)) d e in
     rw (← front.2) (ap (λ t. c ∷ t) (before_colon_some (f ∷ w) front.0 front.1))
@@ -137,7 +133,7 @@ unfolding command_words
 command_letter w ws is = rw ((bytes_eq-Decides w (codes "letter")).1 is)
 
 other_word : (w v : List ℕ) → (w ≡ v → ⊥) → bytes_eq w v ≡ false
-other_word w v other = not-true (bytes_eq w v) (λ same. other ((bytes_eq-Decides w v).0 same))
+other_word w v other = false_from_ne_true (bytes_eq w v) (λ same. other ((bytes_eq-Decides w v).0 same))
 
 pub command_line : (w : List ℕ) (ws : List (List ℕ)) → (w ≡ codes "letter" → ⊥) → w ≡ codes "line" → command_words (w ∷ ws) ≡ line_words ws
 unfolding command_words
@@ -162,27 +158,21 @@ command_cases {B} w ws r e of-letter of-line other = first (bytes_eq w (codes "l
     first true is e = of-letter ((bytes_eq-Decides w (codes "letter")).0 is) e
     first false is e = second (bytes_eq w (codes "line")) refl e
 
-pub line_more : (ws : List (List ℕ)) → (ws ≡ [] → ⊥) → line_words ws ≡ unreadable
+-- what a letter's words say, and those of `line`
+pub letter_says : (ws : List (List ℕ)) → (letter_words ws ≡ unreadable) ⊎ ((n : ℕ) × (bs : List ℕ) × (letter_words ws ≡ letter n bs))
+unfolding letter_words letter_of
+letter_says [] = inl refl
+letter_says (w ∷ ws) = each (name_from (before_colon w)) (numbers ws)
+  where
+    each : (name : Option ℕ) (bytes : Option (List ℕ)) → (letter_of name bytes ≡ unreadable) ⊎ ((n : ℕ) × (bs : List ℕ) × (letter_of name bytes ≡ letter n bs))
+    each None bytes = inl refl
+    each (Some n) None = inl refl
+    each (Some n) (Some bs) = inr (n, bs, refl)
+
+pub line_says : (ws : List (List ℕ)) → (line_words ws ≡ unreadable) ⊎ ((ws ≡ []) × (line_words ws ≡ current_line))
 unfolding line_words
-line_more [] some = absurd (some refl)
-line_more (w ∷ ws) some = refl
-
--- a letter's words, and those of `line`, are never read as anything else
-letter_of_never : {B : Type 0} (name : Option ℕ) (bytes : Option (List ℕ)) {r : Reading} → letter_of name bytes ≡ r → (sort r ≡ 1 → ⊥) → (sort r ≡ 3 → ⊥) → B
-unfolding letter_of
-letter_of_never None bytes e one three = absurd (three (sym (ap sort e)))
-letter_of_never (Some n) None e one three = absurd (three (sym (ap sort e)))
-letter_of_never (Some n) (Some bs) e one three = absurd (one (sym (ap sort e)))
-
-pub letter_never : {B : Type 0} (ws : List (List ℕ)) {r : Reading} → letter_words ws ≡ r → (sort r ≡ 1 → ⊥) → (sort r ≡ 3 → ⊥) → B
-unfolding letter_words
-letter_never [] e one three = absurd (three (sym (ap sort e)))
-letter_never (w ∷ ws) e one three = letter_of_never (name_from (before_colon w)) (numbers ws) e one three
-
-pub line_never : {B : Type 0} (ws : List (List ℕ)) {r : Reading} → line_words ws ≡ r → (sort r ≡ 2 → ⊥) → (sort r ≡ 3 → ⊥) → B
-unfolding line_words
-line_never [] e two three = absurd (two (sym (ap sort e)))
-line_never (w ∷ ws) e two three = absurd (three (sym (ap sort e)))
+line_says [] = inr (refl, refl)
+line_says (w ∷ ws) = inl refl
 
 -- ---- the whole line
 

@@ -9,7 +9,6 @@ use Rattle.std.specs.List.{AllByRecursion}
 use Rattle.frame.specs.Contents.{contents}
 use Rattle.frame.specs.Good.{good}
 use Rattle.frame.specs.declared.frame.Frame.{Frame}
-use Rattle.console.proofs.Apart.{some_none}
 use Rattle.console.proofs.ReadingLaws.{mapped_some}
 use Rattle.console.specs.Laws.{GoodOrRefused, RefusedInOrder}
 use Rattle.console.specs.Refusals.{bad_byte, bad_letter}
@@ -78,7 +77,7 @@ frame_made n bs made f is so = grind arith
 -- ---- good, or refused
 
 cond_none : {A : Type 0} (b : Bool) (x : A) (o : Option A) → cond b (Some x) o ≡ None → (b ≡ false) × (o ≡ None)
-cond_none true x o e = some_none e
+cond_none true x o e = cc
 cond_none false x o e = (refl, e)
 
 pub bad_byte_none : (i x : ℕ) (xs : List ℕ) → bad_byte i (x ∷ xs) ≡ None → (x ≤ 255) × (bad_byte (suc i) xs ≡ None)

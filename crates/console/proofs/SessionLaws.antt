@@ -12,7 +12,6 @@ use Rattle.frame.specs.Contents.{contents, frame_data, line_bits}
 use Rattle.frame.specs.Line.{line}
 use Rattle.frame.specs.declared.frame.Frame.{Frame}
 use Rattle.frame.specs.declared.line.Line.{Line}
-use Rattle.console.proofs.Apart.{unlike}
 use Rattle.console.proofs.RefusalLaws.{bad_byte_none, bad_letter_none}
 use Rattle.console.specs.Answers.{answer, bits, line_reply, refused, reply, reply_of}
 use Rattle.console.specs.Commands.{Holds, Says, capped_reading}
@@ -87,24 +86,6 @@ pub map_replicate : {A B : Type 0} (f : A → B) (n : ℕ) (x : A) → map f (re
 map_replicate f zero x = refl
 map_replicate f (suc n) x = ap (λ l. f x ∷ l) (map_replicate f n x)
 
--- where no letter stands, each stands in its place
-get_or-none : (n k : ℕ) → get_or {A = Option Frame} (replicate n None) k None ≡ None
-get_or-none zero k = refl
-get_or-none (suc n) zero = refl
-get_or-none (suc n) (suc k) = get_or-none n k
-
-pub none_in_place : (fs : List (Option Frame)) (n : ℕ) → fs ≡ replicate n None → InPlace fs
-none_in_place fs n is k = rw (is, get_or-none n k)
-
--- the letter at a place, as it is kept and as the code has it
-letter_there : (fs : List (Option Frame)) (n : ℕ) → get_or (map (option_map contents) fs) n None ≡ option_map contents (get_or fs n None)
-letter_there [] n = refl
-letter_there (f ∷ fs) zero = refl
-letter_there (f ∷ fs) (suc n) = letter_there fs n
-
-pub current_is : (current : Option ℕ) (fs gs : List (Option Frame)) (n : ℕ) → current ≡ Some n → gs ≡ fs → option_map contents (get_or gs n None) ≡ letter_at current (map (option_map contents) fs)
-current_is current fs gs n named same = ap (λ l. option_map contents (get_or l n None)) same ∙ sym (letter_there fs n) ∙ ap (λ o. letter_at o (map (option_map contents) fs)) (sym named)
-
 -- an empty list made longer is filled up
 pub filled : {A : Type 0} (old new : List A) (len n : ℕ) (x : A) → old ≡ [] → len ≡ 0 → new ≡ take n old ++ replicate (n - len) x → new ≡ replicate n x
 filled old new len n x none zero-long e = e ∙ rw (none, zero-long, take-nil n, sub-zero n)
@@ -119,40 +100,40 @@ pub record Becomes (p : ℕ) (r : Reading) (k : State) (a : Result (Option Line)
 pub after_blank : (p : ℕ) (r : Reading) (k : State) → Says (Some Blank) (capped_reading r) → Becomes p r k (Ok None) k
 unfolding answer after
 after_blank p blank k says = record { answered = refl; kept = refl }
-after_blank p (letter n bs) k says = unlike says (omega arith)
-after_blank p current_line k says = unlike says (omega arith)
-after_blank p unreadable k says = unlike says (omega arith)
+after_blank p (letter n bs) k says = cc
+after_blank p current_line k says = cc
+after_blank p unreadable k says = cc
 
 pub after_unreadable : (p : ℕ) (r : Reading) (k : State) → Says None (capped_reading r) → Becomes p r k (Err (Unreadable p)) k
 unfolding answer after
-after_unreadable p blank k says = unlike says (omega arith)
-after_unreadable p (letter n bs) k says = unlike says (omega arith)
-after_unreadable p current_line k says = unlike says (omega arith)
+after_unreadable p blank k says = cc
+after_unreadable p (letter n bs) k says = cc
+after_unreadable p current_line k says = cc
 after_unreadable p unreadable k says = record { answered = refl; kept = refl }
 
 pub after_line : (p : ℕ) (r : Reading) (k : State) (f : Frame) (l : Line) → Says (Some Command.Line) (capped_reading r) → option_map contents (Some f) ≡ current_letter k → line_bits l ≡ line f.id (frame_data f)
     → Becomes p r k (Ok (Some l)) k
 unfolding answer after
-after_line p blank k f l says current made = unlike says (omega arith)
-after_line p (letter n bs) k f l says current made = unlike says (omega arith)
+after_line p blank k f l says current made = cc
+after_line p (letter n bs) k f l says current made = cc
 after_line p current_line k f l says current made = record { answered = ap bits made ∙ ap (line_reply p) current; kept = refl }
-after_line p unreadable k f l says current made = unlike says (omega arith)
+after_line p unreadable k f l says current made = cc
 
 pub after_no_line : (p : ℕ) (r : Reading) (k : State) → Says (Some Command.Line) (capped_reading r) → None ≡ current_letter k → Becomes p r k (Err (Unreadable p)) k
 unfolding answer after
-after_no_line p blank k says none = unlike says (omega arith)
-after_no_line p (letter n bs) k says none = unlike says (omega arith)
+after_no_line p blank k says none = cc
+after_no_line p (letter n bs) k says none = cc
 after_no_line p current_line k says none = record { answered = ap (line_reply p) none; kept = refl }
-after_no_line p unreadable k says none = unlike says (omega arith)
+after_no_line p unreadable k says none = cc
 
 -- a letter that was read, and judged with its numbers capped
 module _ (p : ℕ) (k : State) (x : Declared.Letter) where
   pub after_good : (r : Reading) (f : Frame) (new : State) → Says (Some (Letter x)) (capped_reading r) → ((ns : List ℕ) → Holds x.bytes ns → Judged x.name ns (Ok f)) → new ≡ kept_letter f.id (frame_data f) k
       → Becomes p r k (Ok None) new
   unfolding answer after
-  after_good blank f new (ns, is, holds) judged keeps = unlike is (omega arith)
-  after_good current_line f new (ns, is, holds) judged keeps = unlike is (omega arith)
-  after_good unreadable f new (ns, is, holds) judged keeps = unlike is (omega arith)
+  after_good blank f new (ns, is, holds) judged keeps = cc
+  after_good current_line f new (ns, is, holds) judged keeps = cc
+  after_good unreadable f new (ns, is, holds) judged keeps = cc
   after_good (letter n bs) f new (ns, is, holds) judged keeps =
       let named : x.name ≡ capped n = cc in
       let these : ns ≡ map capped bs = cc in
@@ -163,9 +144,9 @@ module _ (p : ℕ) (k : State) (x : Declared.Letter) where
 
   pub after_bad : (r : Reading) (e : Refusal) → Says (Some (Letter x)) (capped_reading r) → ((ns : List ℕ) → Holds x.bytes ns → Judged x.name ns (Err e)) → Becomes p r k (Err e) k
   unfolding answer after
-  after_bad blank e (ns, is, holds) judged = unlike is (omega arith)
-  after_bad current_line e (ns, is, holds) judged = unlike is (omega arith)
-  after_bad unreadable e (ns, is, holds) judged = unlike is (omega arith)
+  after_bad blank e (ns, is, holds) judged = cc
+  after_bad current_line e (ns, is, holds) judged = cc
+  after_bad unreadable e (ns, is, holds) judged = cc
   after_bad (letter n bs) e (ns, is, holds) judged =
       let named : x.name ≡ capped n = cc in
       let these : ns ≡ map capped bs = cc in
@@ -175,7 +156,7 @@ module _ (p : ℕ) (k : State) (x : Declared.Letter) where
 -- ---- laws
 
 refused_letter : (o : Option Refusal) (x : Refusal) (new k : State) → reply_of o ≡ refused x → unless_refused o new k ≡ k
-refused_letter None x new k e = let no : ◌≡◌ {A = ℕ} 0 1 = cc in absurd (omega arith)
+refused_letter None x new k e = cc
 refused_letter (Some y) x new k e = refl
 
 pub refused_same : RefusedSame

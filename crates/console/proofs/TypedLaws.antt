@@ -1,15 +1,15 @@
 -- What is typed is read (`typed_is_read`), and what is read was typed (`read_was_typed`, `line_was_typed`, `blank_is_empty`): the
 -- console's language, from outside.
 -- Assumes nothing.
-use Rattle.std.proofs.Common.{◌≡◌, ℕ, Bool, true, false, cond, eqb, List, [], ◌∷◌, ◌++◌, map, length, Some, None, codes, Option, ◌≢◌, sym, refl, ap, ◌∙◌, ap₂, arith, ne_eqb, eqb-true}
+use Rattle.std.proofs.Common.{◌≡◌, ℕ, Bool, true, false, ◌⊎◌, inl, inr, cond, eqb, List, [], ◌∷◌, ◌++◌, map, length, Some, None, codes, Option, ◌≢◌, sym, refl, ap, ◌∙◌, ap₂, arith, ne_eqb, eqb-true}
 use Rattle.std.proofs.lemmas.Bool.{and_parts, leb-true}
+use Rattle.std.proofs.lemmas.Option.{cond_some}
 use Rattle.std.proofs.lemmas.List.Elements.{All-from_recursion, All-weaker}
 use Rattle.std.proofs.lemmas.List.Splits.{join_with_byte-slice_split, slice_split_at, slice_split_none}
 use Rattle.std.specs.Char.{is_ascii_digit}
 use Rattle.std.specs.List.{All, AllByRecursion}
 use Rattle.std.specs.Str.{all_ascii_digits}
-use Rattle.console.proofs.Apart.{none_some, unlike}
-use Rattle.console.proofs.ReadingLaws.{mapped_some, before_colon_push, before_colon_some, command_cases, command_letter, letter_never, line_never, reading_some}
+use Rattle.console.proofs.ReadingLaws.{mapped_some, before_colon_push, before_colon_some, command_cases, command_letter, letter_says, line_says, reading_some}
 use Rattle.console.specs.Laws.{SpacedWords, WordsSpaced, BlankIsEmpty, Unspaced, IsNumeral, typed, TypedIsRead, ReadWasTyped, LineWasTyped}
 use Rattle.console.specs.Numeral.{numeral, value, number_in}
 use Rattle.console.specs.Reading.{reading, command_words, letter_words, letter_of, line_words, name_from, before_colon, in_front, numbers, Reading, blank, letter, current_line, unreadable}
@@ -60,11 +60,7 @@ number_in-numeral w is = rw is
 
 numeral_of_number : (w : List ℕ) (n : ℕ) → number_in w ≡ Some n → IsNumeral w × (n ≡ value w)
 unfolding number_in
-numeral_of_number w n e = either (numeral w) refl e
-  where
-    either : (b : Bool) → numeral w ≡ b → cond b (Some (value w)) None ≡ Some n → IsNumeral w × (n ≡ value w)
-    either true is e = (is, cc)
-    either false is e = none_some e
+numeral_of_number w n e = let so = cond_some (numeral w) (value w) n e in (so.0, sym so.1)
 
 numbers_of_numerals : (ws : List (List ℕ)) → AllByRecursion IsNumeral ws → numbers ws ≡ Some (map value ws)
 unfolding numbers in_front
@@ -73,7 +69,7 @@ numbers_of_numerals (w ∷ ws) are = λ i. in_front (number_in-numeral w are.0 i
 
 in_front_some : (first : Option ℕ) (rest : Option (List ℕ)) (ns : List ℕ) → in_front first rest ≡ Some ns → (n : ℕ) × (ms : List ℕ) × (first ≡ Some n) × (rest ≡ Some ms) × (ns ≡ n ∷ ms)
 unfolding in_front
-in_front_some None rest ns e = none_some e
+in_front_some None rest ns e = cc
 in_front_some (Some n) rest ns e = let more = mapped_some (λ ms. n ∷ ms) rest ns e in (n, more.0, refl, more.1, sym more.2)
 
 numerals_of_numbers : (ws : List (List ℕ)) (ns : List ℕ) → numbers ws ≡ Some ns → AllByRecursion IsNumeral ws × (ns ≡ map value ws)
@@ -105,13 +101,13 @@ typed_is_read d ds is are =
 
 letter_of_some : (name : Option ℕ) (bytes : Option (List ℕ)) (n : ℕ) (bs : List ℕ) → letter_of name bytes ≡ letter n bs → (name ≡ Some n) × (bytes ≡ Some bs)
 unfolding letter_of
-letter_of_some None bytes n bs e = unlike e (omega arith)
-letter_of_some (Some m) None n bs e = unlike e (omega arith)
+letter_of_some None bytes n bs e = cc
+letter_of_some (Some m) None n bs e = cc
 letter_of_some (Some m) (Some cs) n bs e = (cc, cc)
 
 name_from_some : (o : Option (List ℕ)) (n : ℕ) → name_from o ≡ Some n → (d : List ℕ) × (o ≡ Some d) × (number_in d ≡ Some n)
 unfolding name_from
-name_from_some None n e = none_some e
+name_from_some None n e = cc
 name_from_some (Some d) n e = (d, refl, e)
 
 -- what the words of a letter are
@@ -126,7 +122,7 @@ pub record TypedWords (ws : List (List ℕ)) (n : ℕ) (bs : List ℕ) : Type 0 
 
 letter_typed : (ws : List (List ℕ)) (n : ℕ) (bs : List ℕ) → letter_words ws ≡ letter n bs → TypedWords (codes "letter" ∷ ws) n bs
 unfolding letter_words
-letter_typed [] n bs e = unlike e (omega arith)
+letter_typed [] n bs e = cc
 letter_typed (w ∷ ws) n bs e =
     let parts = letter_of_some (name_from (before_colon w)) (numbers ws) n bs e in
     let front = name_from_some (before_colon w) n parts.0 in
@@ -144,13 +140,13 @@ letter_typed (w ∷ ws) n bs e =
 
 command_typed : (ws : List (List ℕ)) (n : ℕ) (bs : List ℕ) → command_words ws ≡ letter n bs → TypedWords ws n bs
 unfolding command_words
-command_typed [] n bs e = unlike e (omega arith)
+command_typed [] n bs e = cc
 command_typed (w ∷ ws) n bs e =
-    command_cases w ws (letter n bs) e (λ is e. rw is (letter_typed ws n bs e)) (λ is e. line_never ws e (omega arith) (omega arith)) (λ e. unlike e (omega arith))
+    command_cases w ws (letter n bs) e (λ is e. rw is (letter_typed ws n bs e)) (λ is e. elim (line_says ws) [ inl so ↦ cc | inr so ↦ cc so.1 ]) (λ e. cc)
 
 reading-typed : (t : List ℕ) (n : ℕ) (bs : List ℕ) → reading t ≡ letter n bs → TypedWords (words t) n bs
 unfolding reading
-reading-typed [] n bs e = unlike e (omega arith)
+reading-typed [] n bs e = cc
 reading-typed (c ∷ cs) n bs e = command_typed (words (c ∷ cs)) n bs e
 
 pub read_was_typed : ReadWasTyped
@@ -161,29 +157,26 @@ read_was_typed t n bs e =
 
 -- ---- the command `line`
 
-line_alone : (ws : List (List ℕ)) → line_words ws ≡ current_line → ws ≡ []
-unfolding line_words
-line_alone [] e = refl
-line_alone (w ∷ ws) e = unlike e (omega arith)
-
 line-typed : (ws : List (List ℕ)) → command_words ws ≡ current_line → ws ≡ codes "line" ∷ []
 unfolding command_words
-line-typed [] e = unlike e (omega arith)
+line-typed [] e = cc
 line-typed (w ∷ ws) e =
-    command_cases w ws current_line e (λ is e. letter_never ws e (omega arith) (omega arith)) (λ is e. ap₂ ◌∷◌ is (line_alone ws e)) (λ e. unlike e (omega arith))
+    command_cases w ws current_line e (λ is e. elim (letter_says ws) [ inl so ↦ cc | inr so ↦ cc so.2 ])
+    (λ is e. elim (line_says ws) [ inl so ↦ cc | inr so ↦ ap₂ ◌∷◌ is so.0 ]) (λ e. cc)
 
 pub line_was_typed : LineWasTyped
 unfolding reading
-line_was_typed [] e = unlike e (omega arith)
+line_was_typed [] e = cc
 line_was_typed (c ∷ cs) e = sym (spaced-words (c ∷ cs)) ∙ ap spaced (line-typed (words (c ∷ cs)) e)
 
 -- ---- blank lines
 
 command_not_blank : (ws : List (List ℕ)) → command_words ws ≡ blank → ⊥
 unfolding command_words
-command_not_blank [] e = unlike e (omega arith)
+command_not_blank [] e = cc
 command_not_blank (w ∷ ws) e =
-    command_cases w ws blank e (λ is e. letter_never ws e (omega arith) (omega arith)) (λ is e. line_never ws e (omega arith) (omega arith)) (λ e. unlike e (omega arith))
+    command_cases w ws blank e (λ is e. elim (letter_says ws) [ inl so ↦ cc | inr so ↦ cc so.2 ])
+    (λ is e. elim (line_says ws) [ inl so ↦ cc | inr so ↦ cc so.1 ]) (λ e. cc)
 
 pub blank_is_empty : BlankIsEmpty
 unfolding reading

@@ -2,18 +2,12 @@
 use Rattle.std.proofs.Common.{◌≡◌, map, replicate, None, vec_items, refl, ap, ◌∙◌, rules}
 use Rattle.std.specs.Option.{option_map}
 use Rattle.frame.specs.Contents.{contents}
-use Rattle.console.proofs.SessionLaws.{same_state, map_replicate, filled, none_in_place}
+use Rattle.console.proofs.SessionLaws.{same_state, map_replicate, filled}
 use Rattle.console.proofs.session.Session.new.Goals as goal
 use Rattle.console.proofs.session.Session.new.Goals.{In_ok-resize}
 
 no_letter : (c : In_ok-resize) → vec_items c.resize.new.self ≡ replicate 2048 None
 no_letter c = filled _ _ _ 2048 None c.new-kept.ensures.items c.new-kept.ensures.len c.in_ok-resize.ensures.items
-
-pub invariant_of-result : goal.invariant_of-result
-invariant_of-result c = record {
-  whole = search rules;
-  placed = none_in_place _ 2048 (no_letter (goal.at.invariant_of-result c).In_ok-resize);
-}
 
 pub returns : goal.returns
 returns c =

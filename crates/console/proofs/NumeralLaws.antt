@@ -4,8 +4,9 @@ use Rattle.std.proofs.Common.{◌≡◌, ℕ, ◌+◌, ◌-◌, ◌*◌, ◌^◌
 use Rattle.std.proofs.lemmas.List.{at_drop_more, at_drop_all}
 use Rattle.std.specs.Option.{option_map}
 use Rattle.std.specs.Char.{is_ascii_digit}
+use Rattle.std.specs.List.{fold}
 use Rattle.std.specs.Str.{all_ascii_digits}
-use Rattle.console.specs.Numeral.{value_from, number_in, capped}
+use Rattle.console.specs.Numeral.{number_in, capped}
 
 -- capping after each digit is capping at the end
 pub capped_more : (v d : ℕ) → min (min (capped v * 10) (2 ^ 64 - 1) + d) (2 ^ 64 - 1) ≡ capped (v * 10 + d)
@@ -14,10 +15,10 @@ capped_more v d = omega arith
 
 -- the number that digits write behind those that wrote v, if they are digits
 onward : ℕ → List ℕ → Option ℕ
-onward v w = cond (all_ascii_digits w) (Some (value_from v w)) None
+onward v w = cond (all_ascii_digits w) (Some (fold (λ n c. n * 10 + (c - 48)) v w)) None
 
 onward_digit : (v c : ℕ) (cs : List ℕ) → is_ascii_digit c ≡ true → onward v (c ∷ cs) ≡ onward (v * 10 + (c - 48)) cs
-unfolding onward value_from
+unfolding onward
 onward_digit v c cs e = rw e refl
 
 onward_other : (v c : ℕ) (cs : List ℕ) → is_ascii_digit c ≡ false → onward v (c ∷ cs) ≡ None
@@ -58,5 +59,5 @@ module _ (w : List ℕ) (i n : ℕ) (so_far : ReadsTo w i n) where
       sym (ap (option_map capped) (so_far.2 ∙ at_drop_more (onward so_far.0) w i 0 h ∙ onward_other so_far.0 (get_or w i 0) (drop (i + 1) w) other))
 
   pub reads_end : length w ≤ i → Some n ≡ option_map capped (number_in w)
-  unfolding ReadsTo onward value_from
+  unfolding ReadsTo onward
   reads_end h = ap Some so_far.1 ∙ sym (ap (option_map capped) (so_far.2 ∙ at_drop_all (onward so_far.0) w i h))

@@ -2,15 +2,14 @@
 -- (`found_all`, `found_other`), and the whole line.
 -- Assumes nothing.
 use Rattle.std.proofs.Common.{◌≡◌, ℕ, ◌+◌, ◌<◌, ◌≤◌, Bool, true, false, cond, eqb, List, [], ◌∷◌, ◌++◌, ◌⊎◌, inl, inr, map, length, get_or, drop, Some, None, codes, Option, sym, refl, ap, ◌∙◌, subst, append_assoc, append-nil, arith, eqb-true}
-use Rattle.std.proofs.lemmas.Bool.{false_from_ne_true}
 use Rattle.std.proofs.lemmas.Slice.Eq.{bytes_eq-Decides}
 use Rattle.std.proofs.lemmas.List.{at_drop_more, at_drop_all, map_push}
 use Rattle.std.proofs.lemmas.Iterator.Adapters.{option_map_id}
-use Rattle.std.specs.Option.{option_map}
+use Rattle.std.specs.Option.{option_and_then, option_map}
 use Rattle.std.specs.Str.{bytes_eq}
 use Rattle.console.specs.Commands.{Holds, SaysLetter, capped_reading}
 use Rattle.console.specs.Numeral.{number_in, capped}
-use Rattle.console.specs.Reading.{Reading, reading, command_words, letter_words, letter_of, line_words, name_from, before_colon, in_front, numbers, blank, letter, current_line, unreadable}
+use Rattle.console.specs.Reading.{Reading, reading, command_words, letter_words, letter_of, line_words, before_colon, in_front, numbers, blank, letter, current_line, unreadable}
 use Rattle.console.specs.Words.{words}
 use Rattle.console.specs.declared.numbers.Numbers.{Numbers}
 
@@ -108,9 +107,9 @@ letter_of-capped (Some n) None = refl
 letter_of-capped (Some n) (Some bs) = refl
 
 pub letter_capped : (ws : List (List ℕ)) (w : List ℕ) (more : List (List ℕ)) → ws ≡ w ∷ more
-    → capped_reading (letter_words ws) ≡ letter_of (option_map capped (name_from (before_colon w))) (option_map (map capped) (numbers more))
+    → capped_reading (letter_words ws) ≡ letter_of (option_map capped (option_and_then number_in (before_colon w))) (option_map (map capped) (numbers more))
 unfolding letter_words
-letter_capped ws w more cut = ap (λ l. capped_reading (letter_words l)) cut ∙ letter_of-capped (name_from (before_colon w)) (numbers more)
+letter_capped ws w more cut = ap (λ l. capped_reading (letter_words l)) cut ∙ letter_of-capped (option_and_then number_in (before_colon w)) (numbers more)
 
 -- what a letter says, by what could be read of it
 module _ (r : Reading) (name : Option ℕ) (bytes : Option (List ℕ)) (is : r ≡ letter_of name (option_map (map capped) bytes)) where
@@ -132,17 +131,6 @@ pub command_letter : (w : List ℕ) (ws : List (List ℕ)) → w ≡ codes "lett
 unfolding command_words
 command_letter w ws is = rw ((bytes_eq-Decides w (codes "letter")).1 is)
 
-other_word : (w v : List ℕ) → (w ≡ v → ⊥) → bytes_eq w v ≡ false
-other_word w v other = false_from_ne_true (bytes_eq w v) (λ same. other ((bytes_eq-Decides w v).0 same))
-
-pub command_line : (w : List ℕ) (ws : List (List ℕ)) → (w ≡ codes "letter" → ⊥) → w ≡ codes "line" → command_words (w ∷ ws) ≡ line_words ws
-unfolding command_words
-command_line w ws other is = rw (other_word w (codes "letter") other, (bytes_eq-Decides w (codes "line")).1 is)
-
-pub command_other : (w : List ℕ) (ws : List (List ℕ)) → (w ≡ codes "letter" → ⊥) → (w ≡ codes "line" → ⊥) → command_words (w ∷ ws) ≡ unreadable
-unfolding command_words
-command_other w ws not_letter not-Line = rw (other_word w (codes "letter") not_letter, other_word w (codes "line") not-Line)
-
 -- what follows of any command follows of what was read
 pub command_cases :
     {B : Type 0} (w : List ℕ) (ws : List (List ℕ)) (r : Reading) → command_words (w ∷ ws) ≡ r → (w ≡ codes "letter" → letter_words ws ≡ r → B)
@@ -162,7 +150,7 @@ command_cases {B} w ws r e of-letter of-line other = first (bytes_eq w (codes "l
 pub letter_says : (ws : List (List ℕ)) → (letter_words ws ≡ unreadable) ⊎ ((n : ℕ) × (bs : List ℕ) × (letter_words ws ≡ letter n bs))
 unfolding letter_words letter_of
 letter_says [] = inl refl
-letter_says (w ∷ ws) = each (name_from (before_colon w)) (numbers ws)
+letter_says (w ∷ ws) = each (option_and_then number_in (before_colon w)) (numbers ws)
   where
     each : (name : Option ℕ) (bytes : Option (List ℕ)) → (letter_of name bytes ≡ unreadable) ⊎ ((n : ℕ) × (bs : List ℕ) × (letter_of name bytes ≡ letter n bs))
     each None bytes = inl refl

@@ -3,13 +3,12 @@
 use Rattle.std.proofs.Common.{◌≡◌, ℕ, zero, suc, ◌+◌, ◌<◌, ◌≤◌, Bool, true, false, cond, ltb, leb, List, [], ◌∷◌, length, get_or, drop, Some, None, Option, refl, ◌∙◌, add-one, arith, le-ltb, lt-ltb}
 use native.Mathlib.Numerals.{suc-eq-add-one}
 use Rattle.std.proofs.lemmas.List.{at_drop_more, at_drop_all}
-use Rattle.std.proofs.lemmas.Bool.{and_from, and_parts, cond-true, le-leb, leb-true, ltb-false, ltb-true}
+use Rattle.std.proofs.lemmas.Bool.{and_from, and_parts, le-leb, leb-true, ltb-false, ltb-true}
 use Rattle.std.specs.Option.{option_map}
 use Rattle.std.specs.List.{AllByRecursion}
 use Rattle.frame.specs.Contents.{contents}
 use Rattle.frame.specs.Good.{good}
 use Rattle.frame.specs.declared.frame.Frame.{Frame}
-use Rattle.console.proofs.ReadingLaws.{mapped_some}
 use Rattle.console.specs.Laws.{GoodOrRefused, RefusedInOrder}
 use Rattle.console.specs.Refusals.{bad_byte, bad_letter}
 use Rattle.console.specs.declared.refusal.Refusal.TheVariants.{Name, Count, Byte}

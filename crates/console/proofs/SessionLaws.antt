@@ -2,7 +2,7 @@
 -- that is capped is too large in any case (`after_good`, `after_bad`), and after `line` (`after_line`, `after_no_line`); and which letter is the current one
 -- after any lines (`line_of_last`).
 -- Assumes nothing.
-use Rattle.std.proofs.Common.{◌≡◌, ℕ, zero, suc, ◌-◌, ◌^◌, ◌<◌, ◌≤◌, cond, ltb, ◌⊎◌, List, [], ◌∷◌, ◌++◌, map, length, get_or, take, set, replicate, Some, None, Ok, Err, Option, Result, sym, refl, ap, ◌∙◌, ap₂, inl, inr, arith}
+use Rattle.std.proofs.Common.{◌≡◌, ℕ, zero, suc, ◌-◌, ◌^◌, ◌<◌, ◌≤◌, cond, ltb, ◌⊎◌, List, [], ◌∷◌, ◌++◌, map, length, take, set, replicate, Some, None, Ok, Err, Option, Result, sym, refl, ap, ◌∙◌, ap₂, inl, inr, arith}
 use native.Mathlib.Nat.{sub-zero}
 use lib.Seq.{take-nil}
 use Rattle.std.proofs.lemmas.List.{get_or-set_same, length-map, length-set}
@@ -17,10 +17,9 @@ use Rattle.console.specs.Answers.{answer, bits, line_reply, refused, reply, repl
 use Rattle.console.specs.Commands.{Holds, Says, capped_reading}
 use Rattle.console.specs.Laws.{RefusedSame, LineOfLast, after_all, last_good, newer}
 use Rattle.console.specs.Numeral.{capped}
-use Rattle.console.specs.Places.{InPlace}
 use Rattle.console.specs.Reading.{Reading, blank, letter, current_line, unreadable}
 use Rattle.console.specs.Refusals.{Judged, bad_byte, bad_letter}
-use Rattle.console.specs.Sessions.{State, current_letter, letter_at, kept_letter, no_letters, unless_refused, after}
+use Rattle.console.specs.Sessions.{State, current_letter, kept_letter, no_letters, unless_refused, after}
 use Rattle.console.specs.declared.command.Command.TheVariants as Command
 use Rattle.console.specs.declared.command.Command.TheVariants.{Blank, Letter}
 use Rattle.console.specs.declared.letter.Letter as Declared

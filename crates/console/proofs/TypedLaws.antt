@@ -1,18 +1,19 @@
 -- What is typed is read (`typed_is_read`), and what is read was typed (`read_was_typed`, `line_was_typed`, `blank_is_empty`): the
 -- console's language, from outside.
 -- Assumes nothing.
-use Rattle.std.proofs.Common.{◌≡◌, ℕ, Bool, true, false, ◌⊎◌, inl, inr, cond, eqb, List, [], ◌∷◌, ◌++◌, map, length, Some, None, codes, Option, ◌≢◌, sym, refl, ap, ◌∙◌, ap₂, arith, ne_eqb, eqb-true}
+use Rattle.std.proofs.Common.{◌≡◌, ℕ, true, false, inl, inr, eqb, List, [], ◌∷◌, ◌++◌, map, length, Some, None, codes, Option, ◌≢◌, sym, refl, ap, ◌∙◌, ap₂, arith, ne_eqb}
 use Rattle.std.proofs.lemmas.Bool.{and_parts, leb-true}
-use Rattle.std.proofs.lemmas.Option.{cond_some}
+use Rattle.std.proofs.lemmas.Option.{cond_some, option_and_then_some}
 use Rattle.std.proofs.lemmas.List.Elements.{All-from_recursion, All-weaker}
 use Rattle.std.proofs.lemmas.List.Splits.{join_with_byte-slice_split, slice_split_at, slice_split_none}
 use Rattle.std.specs.Char.{is_ascii_digit}
+use Rattle.std.specs.Option.{option_and_then}
 use Rattle.std.specs.List.{All, AllByRecursion}
 use Rattle.std.specs.Str.{all_ascii_digits}
 use Rattle.console.proofs.ReadingLaws.{mapped_some, before_colon_push, before_colon_some, command_cases, command_letter, letter_says, line_says, reading_some}
 use Rattle.console.specs.Laws.{SpacedWords, WordsSpaced, BlankIsEmpty, Unspaced, IsNumeral, typed, TypedIsRead, ReadWasTyped, LineWasTyped}
 use Rattle.console.specs.Numeral.{numeral, value, number_in}
-use Rattle.console.specs.Reading.{reading, command_words, letter_words, letter_of, line_words, name_from, before_colon, in_front, numbers, Reading, blank, letter, current_line, unreadable}
+use Rattle.console.specs.Reading.{reading, command_words, letter_words, letter_of, line_words, before_colon, in_front, numbers, Reading, blank, letter, current_line, unreadable}
 use Rattle.console.specs.Words.{words, spaced}
 
 -- ---- words and spaces
@@ -91,12 +92,12 @@ unfolding typed
 typed_some d ds e = omega arith
 
 pub typed_is_read : TypedIsRead
-unfolding typed letter_words letter_of name_from
+unfolding typed letter_words letter_of
 typed_is_read d ds is are =
     reading_some (typed d ds) (typed_some d ds)
     ∙ ap command_words (words-spaced (codes "letter") ((d ++ codes ":") ∷ ds) letter_unspaced (colon_unspaced d (numeral_unspaced d is), numerals_unspaced ds are))
     ∙ command_letter (codes "letter") ((d ++ codes ":") ∷ ds) refl
-    ∙ (λ i. letter_of (name_from (before_colon_push d i)) (numbers ds))
+    ∙ (λ i. letter_of (option_and_then number_in (before_colon_push d i)) (numbers ds))
     ∙ (λ i. letter_of (number_in-numeral d is i) (numbers_of_numerals ds are i))
 
 letter_of_some : (name : Option ℕ) (bytes : Option (List ℕ)) (n : ℕ) (bs : List ℕ) → letter_of name bytes ≡ letter n bs → (name ≡ Some n) × (bytes ≡ Some bs)
@@ -104,11 +105,6 @@ unfolding letter_of
 letter_of_some None bytes n bs e = cc
 letter_of_some (Some m) None n bs e = cc
 letter_of_some (Some m) (Some cs) n bs e = (cc, cc)
-
-name_from_some : (o : Option (List ℕ)) (n : ℕ) → name_from o ≡ Some n → (d : List ℕ) × (o ≡ Some d) × (number_in d ≡ Some n)
-unfolding name_from
-name_from_some None n e = cc
-name_from_some (Some d) n e = (d, refl, e)
 
 -- what the words of a letter are
 pub record TypedWords (ws : List (List ℕ)) (n : ℕ) (bs : List ℕ) : Type 0 where
@@ -124,8 +120,8 @@ letter_typed : (ws : List (List ℕ)) (n : ℕ) (bs : List ℕ) → letter_words
 unfolding letter_words
 letter_typed [] n bs e = cc
 letter_typed (w ∷ ws) n bs e =
-    let parts = letter_of_some (name_from (before_colon w)) (numbers ws) n bs e in
-    let front = name_from_some (before_colon w) n parts.0 in
+    let parts = letter_of_some (option_and_then number_in (before_colon w)) (numbers ws) n bs e in
+    let front : (d : List ℕ) × (before_colon w ≡ Some d) × (number_in d ≡ Some n) = option_and_then_some number_in (before_colon w) n parts.0 (λ d is so. (d, is, so)) in
     let name = numeral_of_number front.0 n front.2 in
     let bytes = numerals_of_numbers ws bs parts.1 in
     record {

@@ -2,24 +2,20 @@
 -- Assumes nothing: these are definitions.
 --
 --   numeral w          whether w is digits, one at least, and nothing else
---   value_from v w     the number that the digits w write behind the number v
 --   value w            the number that the digits w write
 --   number_in w        the number that w writes, or nothing where w is no numeral
 --   capped n           n, or the largest number of 64 bits where n is larger: what the code keeps of a number, whose
 --                      places are all far below that
 use Rattle.std.specs.Prelude.{ℕ, ◌+◌, ◌-◌, ◌*◌, ◌^◌, min, Bool, false, cond, List, [], ◌∷◌, Some, None, Option}
+use Rattle.std.specs.List.{fold}
 use Rattle.std.specs.Str.{all_ascii_digits}
 
 abbrev pub numeral : List ℕ → Bool
 numeral [] = false
 numeral (c ∷ cs) = all_ascii_digits (c ∷ cs)
 
-unfoldable pub value_from : ℕ → List ℕ → ℕ
-value_from v [] = v
-value_from v (c ∷ cs) = value_from (v * 10 + (c - 48)) cs
-
 abbrev pub value : List ℕ → ℕ
-value w = value_from 0 w
+value w = fold (λ v c. v * 10 + (c - 48)) 0 w
 
 unfoldable pub number_in : List ℕ → Option ℕ
 number_in w = cond (numeral w) (Some (value w)) None

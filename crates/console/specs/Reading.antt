@@ -10,11 +10,10 @@
 --   line_words ws      what the words ws say behind the word `line`
 --   letter_of n bs     the letter with the name n and the bytes bs, if both could be read
 --   before_colon w     what stands before the colon that ends the word w, or nothing where no colon ends it
---   name_from d        the number that the digits d write, if there are such
 --   numbers ws         the numbers that the words ws are, or nothing where one of them is no number
 --   in_front n ns      the number n in front of the numbers ns, if both could be read
 use Rattle.std.specs.Prelude.{ℕ, cond, List, [], ◌∷◌, Some, None, codes, Option, ◌==◌}
-use Rattle.std.specs.Option.{option_map}
+use Rattle.std.specs.Option.{option_and_then, option_map}
 use Rattle.std.specs.Str.{bytes_eq}
 use Rattle.console.specs.Numeral.{number_in}
 use Rattle.console.specs.Words.{words}
@@ -29,10 +28,6 @@ unfoldable pub before_colon : List ℕ → Option (List ℕ)
 before_colon [] = None
 before_colon (c ∷ []) = cond (c == 58) (Some []) None
 before_colon (c ∷ d ∷ w) = option_map (λ front. c ∷ front) (before_colon (d ∷ w))
-
-unfoldable pub name_from : Option (List ℕ) → Option ℕ
-name_from None = None
-name_from (Some w) = number_in w
 
 unfoldable pub in_front : Option ℕ → Option (List ℕ) → Option (List ℕ)
 in_front None ns = None
@@ -49,7 +44,7 @@ letter_of (Some name) (Some bytes) = letter name bytes
 
 unfoldable pub letter_words : List (List ℕ) → Reading
 letter_words [] = unreadable
-letter_words (w ∷ ws) = letter_of (name_from (before_colon w)) (numbers ws)
+letter_words (w ∷ ws) = letter_of (option_and_then number_in (before_colon w)) (numbers ws)
 
 unfoldable pub line_words : List (List ℕ) → Reading
 line_words [] = current_line

@@ -1,9 +1,9 @@
 // A line of text read as a command.
 ghost use Rattle.std.specs.Prelude.{◌≡◌};
-ghost use Rattle.std.specs.Option.{option_map};
+ghost use Rattle.std.specs.Option.{option_and_then, option_map};
 ghost use Rattle.console.specs.Commands.{Says, SaysLetter, capped_reading};
-ghost use Rattle.console.specs.Numeral.{capped};
-ghost use Rattle.console.specs.Reading.{reading, letter_words, name_from, before_colon};
+ghost use Rattle.console.specs.Numeral.{capped, number_in};
+ghost use Rattle.console.specs.Reading.{reading, letter_words, before_colon};
 ghost use Rattle.console.specs.Words.{words};
 
 use crate::letter::Letter;
@@ -56,7 +56,7 @@ fn read_letter(text: &[u8]) -> Option<Letter>
 
 // The number in a word that a colon ends.
 fn read_name(word: &[u8]) -> Option<u64>
-    ensures { result ≡ option_map capped (name_from (before_colon word.now)) }
+    ensures { result ≡ option_map capped (option_and_then number_in (before_colon word.now)) }
 {
     read_number(word.strip_suffix(COLON)?)
 }

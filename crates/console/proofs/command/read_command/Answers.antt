@@ -1,5 +1,5 @@
 -- A line without bytes is blank, and any other is read by what stands in front.
-use Rattle.std.proofs.Common.{◌≡◌, [], length, codes, refl, ap, ◌∙◌, true-eqb, false-eqb}
+use Rattle.std.proofs.Common.{length, codes, refl, ap, ◌∙◌, true-eqb, false-eqb}
 use Rattle.std.proofs.lemmas.Bool.{both_ways}
 use Rattle.std.proofs.lemmas.Bool.Decides.{Decides-eqb}
 use Rattle.std.proofs.lemmas.Slice.Eq.{slice_eq-Decides, strip_prefix_is}

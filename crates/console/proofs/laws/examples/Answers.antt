@@ -6,14 +6,14 @@ use Rattle.frame.specs.Fields.{fields}
 use Rattle.frame.specs.Line.{line}
 use Rattle.frame.specs.Stuffing.{run, stuff}
 use Rattle.console.specs.Answers.{answer}
-use Rattle.console.specs.Numeral.{value_from, number_in}
-use Rattle.console.specs.Reading.{before_colon, name_from, in_front, numbers, letter_of, letter_words, line_words, command_words, reading}
+use Rattle.console.specs.Numeral.{number_in}
+use Rattle.console.specs.Reading.{before_colon, in_front, numbers, letter_of, letter_words, line_words, command_words, reading}
 use Rattle.console.specs.Refusals.{bad_byte, bad_letter}
 use Rattle.console.specs.Sessions.{after}
 use Rattle.console.proofs.laws.examples.Goals as goal
 
 pub returns : goal.returns
-unfolding bit_at bits_of bytes_bits differ covered crc_from crc_step doubled fields line run stuff value_from number_in before_colon name_from in_front numbers letter_of letter_words line_words command_words reading bad_byte bad_letter answer after
+unfolding bit_at bits_of bytes_bits differ covered crc_from crc_step doubled fields line run stuff number_in before_colon in_front numbers letter_of letter_words line_words command_words reading bad_byte bad_letter answer after
 returns c = record {
   empty = refl;
   plain = refl;

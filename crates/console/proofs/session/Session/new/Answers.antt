@@ -1,5 +1,5 @@
 -- The table is made empty and then filled up with no letter at each place.
-use Rattle.std.proofs.Common.{◌≡◌, map, replicate, None, vec_items, refl, ap, ◌∙◌, rules}
+use Rattle.std.proofs.Common.{◌≡◌, map, replicate, None, vec_items, refl, ap, ◌∙◌}
 use Rattle.std.specs.Option.{option_map}
 use Rattle.frame.specs.Contents.{contents}
 use Rattle.console.proofs.SessionLaws.{same_state, map_replicate, filled}

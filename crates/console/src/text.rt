@@ -14,7 +14,7 @@ impl fmt::Display for Printed {
     ghost output = { λ p. Some (reply_text (reply p.0)) };
 
     fn fmt<W: fmt::Write>(&self, f: &mut fmt::Formatter<W>) -> fmt::Result {
-        match self.0 {
+        match &self.0 {
             Ok(None) => Ok(()),
             Ok(Some(line)) => writeln!(f, "{line}"),
             Err(refusal) => {

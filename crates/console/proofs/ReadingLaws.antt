@@ -2,6 +2,7 @@
 -- (`found_all`, `found_other`), and the whole line.
 -- Assumes nothing.
 use Rattle.std.proofs.Common.{◌≡◌, ℕ, ◌+◌, ◌<◌, ◌≤◌, Bool, true, false, cond, eqb, List, [], ◌∷◌, ◌++◌, ◌⊎◌, inl, inr, map, length, get_or, drop, Some, None, codes, Option, sym, refl, ap, ◌∙◌, subst, append_assoc, append-nil, arith, eqb-true}
+use Rattle.std.proofs.lemmas.Option.{cond_some}
 use Rattle.std.proofs.lemmas.Slice.Eq.{bytes_eq-Decides}
 use Rattle.std.proofs.lemmas.List.{at_drop_more, at_drop_all, map_push}
 use Rattle.std.proofs.lemmas.Iterator.Adapters.{option_map_id}
@@ -35,11 +36,7 @@ before_colon_push (c ∷ e ∷ d) = ap (option_map (λ front. c ∷ front)) (bef
 pub before_colon_some : (w d : List ℕ) → before_colon w ≡ Some d → w ≡ d ++ (58 ∷ [])
 unfolding before_colon
 before_colon_some [] d e = cc
-before_colon_some (c ∷ []) d e = last (eqb c 58) refl e
-  where
-    last : (b : Bool) → eqb c 58 ≡ b → cond b (Some []) None ≡ Some d → c ∷ [] ≡ d ++ (58 ∷ [])
-    last true is e = let none : d ≡ [] = cc in rw (none, eqb-true c 58 is)
-    last false is e = cc
+before_colon_some (c ∷ []) d e = let so = cond_some (eqb c 58) [] d e in rw (← so.1, eqb-true c 58 so.0)
 before_colon_some (c ∷ f ∷ w) d e =
     let front = mapped_some (λ front. c ∷ front) (before_colon (f ∷ w)) d e in
     rw (← front.2) (ap (λ t. c ∷ t) (before_colon_some (f ∷ w) front.0 front.1))
@@ -53,50 +50,52 @@ before_colon_none w never = either (before_colon w) refl
 
 -- ---- numbers, one word after the other
 
+-- the numbers done, and those behind them, if these could be read
+abbrev pub behind : List ℕ → Option (List ℕ) → Option (List ℕ)
+behind done rest = option_map (λ ns. done ++ ns) rest
+
+behind_more : (done : List ℕ) (n : ℕ) (rest : Option (List ℕ)) → behind done (in_front (Some n) rest) ≡ behind (done ++ (n ∷ [])) rest
+unfolding in_front
+behind_more done n None = refl
+behind_more done n (Some ns) = ap Some (sym (append_assoc done (n ∷ []) ns))
+
 -- the numbers found so far are those that the first k of the words ws are
 pub record Found (ws : List (List ℕ)) (found : Numbers) (k : ℕ) : Type 0 where
   pub done : List ℕ
   pub counted : found.count ≡ k
   pub kept : Holds found (map capped done)
-  pub left : numbers ws ≡ option_map (λ more. done ++ more) (numbers (drop k ws))
-
-mapped_front : (done : List ℕ) (n : ℕ) (o : Option (List ℕ)) → option_map (λ more. done ++ more) (in_front (Some n) o) ≡ option_map (λ more. (done ++ (n ∷ [])) ++ more) o
-unfolding in_front
-mapped_front done n None = refl
-mapped_front done n (Some x) = ap Some (sym (append_assoc done (n ∷ []) x))
+  pub left : numbers ws ≡ behind done (numbers (drop k ws))
 
 pub found_none : (ws : List (List ℕ)) (found : Numbers) → Holds found [] → Found ws found 0
 found_none ws found holds = record { done = []; counted = holds.count; kept = holds; left = sym (option_map_id (numbers ws)) }
 
 module _ (ws : List (List ℕ)) (found : Numbers) (k : ℕ) (so_far : Found ws found k) where
-  -- the next word is w
+  -- where the next word is w
   module _ (w : List ℕ) (inside : k < length ws) (next : w ≡ get_or ws k w) where
-    on_word : numbers ws ≡ option_map (λ more. so_far.done ++ more) (in_front (number_in w) (numbers (drop (k + 1) ws)))
+    at_word : (o : Option ℕ) → number_in w ≡ o → numbers ws ≡ behind so_far.done (in_front o (numbers (drop (k + 1) ws)))
     unfolding numbers
-    on_word =
-        so_far.left ∙ at_drop_more (λ rest. option_map (λ more. so_far.done ++ more) (numbers rest)) ws k w inside
-        ∙ ap (λ v. option_map (λ more. so_far.done ++ more) (in_front (number_in v) (numbers (drop (k + 1) ws)))) (sym next)
+    at_word o is =
+        so_far.left ∙ at_drop_more (λ rest. behind so_far.done (numbers rest)) ws k w inside
+        ∙ ap (λ o. behind so_far.done (in_front o (numbers (drop (k + 1) ws)))) (ap number_in (sym next) ∙ is)
 
-    pub found_more : (n : ℕ) (more : Numbers) → Some n ≡ option_map capped (number_in w) → more.count ≡ found.count + 1 → ((ns : List ℕ) → Holds found ns → Holds more (ns ++ (n ∷ []))) → Found ws more (k + 1)
-    found_more n more read counted pushed =
+    pub found_more : (n : ℕ) (x : Numbers) → Some n ≡ option_map capped (number_in w) → x.count ≡ found.count + 1 → ((ns : List ℕ) → Holds found ns → Holds x (ns ++ (n ∷ []))) → Found ws x (k + 1)
+    found_more n x read counted pushed =
         let number = mapped_some capped (number_in w) n (sym read) in
         let these = ap (λ m. map capped so_far.done ++ (m ∷ [])) (sym number.2) ∙ sym (map_push capped so_far.done number.0) in
         record {
           done = so_far.done ++ (number.0 ∷ []);
           counted = counted ∙ ap (λ m. m + 1) so_far.counted;
-          kept = subst (Holds more) these (pushed (map capped so_far.done) so_far.kept);
-          left =
-              on_word ∙ ap (λ o. option_map (λ more. so_far.done ++ more) (in_front o (numbers (drop (k + 1) ws)))) number.1
-              ∙ mapped_front so_far.done number.0 (numbers (drop (k + 1) ws));
+          kept = subst (Holds x) these (pushed (map capped so_far.done) so_far.kept);
+          left = at_word (Some number.0) number.1 ∙ behind_more so_far.done number.0 (numbers (drop (k + 1) ws));
         }
 
     pub found_other : None ≡ option_map capped (number_in w) → numbers ws ≡ None
     unfolding in_front
-    found_other other = on_word ∙ ap (λ o. option_map (λ more. so_far.done ++ more) (in_front o (numbers (drop (k + 1) ws)))) (mapped_none capped (number_in w) (sym other))
+    found_other other = at_word None (mapped_none capped (number_in w) (sym other))
 
   pub found_all : length ws ≤ k → numbers ws ≡ Some so_far.done
   unfolding numbers
-  found_all end = so_far.left ∙ at_drop_all (λ rest. option_map (λ more. so_far.done ++ more) (numbers rest)) ws k end ∙ ap Some (append-nil so_far.done)
+  found_all end = so_far.left ∙ at_drop_all (λ rest. behind so_far.done (numbers rest)) ws k end ∙ ap Some (append-nil so_far.done)
 
 -- ---- a letter
 

@@ -1,9 +1,9 @@
 -- Letters judged: by name, by length, and byte by byte. The main results are `good_or_refused` and `refused_in_order`.
 -- Assumes nothing.
-use Rattle.std.proofs.Common.{◌≡◌, ℕ, zero, suc, ◌+◌, ◌<◌, ◌≤◌, Bool, true, false, cond, ltb, leb, List, [], ◌∷◌, length, get_or, drop, Some, None, Option, refl, ◌∙◌, add-one, arith, le-ltb, lt-ltb}
+use Rattle.std.proofs.Common.{◌≡◌, ℕ, zero, suc, ◌+◌, ◌<◌, ◌≤◌, true, cond, List, [], ◌∷◌, length, get_or, drop, Some, None, Option, refl, ◌∙◌, add-one, arith, le-ltb, lt-ltb}
 use native.Mathlib.Numerals.{suc-eq-add-one}
 use Rattle.std.proofs.lemmas.List.{at_drop_more, at_drop_all}
-use Rattle.std.proofs.lemmas.Bool.{and_from, and_parts, le-leb, leb-true, ltb-false, ltb-true}
+use Rattle.std.proofs.lemmas.Bool.Decides.{nat_tests}
 use Rattle.std.specs.Option.{option_map}
 use Rattle.std.specs.List.{AllByRecursion}
 use Rattle.frame.specs.Contents.{contents}
@@ -61,13 +61,10 @@ bad_bytes n bs h short = rw (le-ltb _ _ h, le-ltb _ _ short)
 -- ---- frames
 
 good_frame : (n : ℕ) (bs : List ℕ) → n ≤ 2047 → length bs ≤ 8 → good n bs ≡ true
-good_frame n bs small few = and_from _ _ (lt-ltb n 2048 (omega arith)) (le-leb (length bs) 8 few)
+good_frame n bs small few = grind (arith, nat_tests)
 
 frame_good : (n : ℕ) (bs : List ℕ) → good n bs ≡ true → (n ≤ 2047) × (length bs ≤ 8)
-frame_good n bs is =
-    let parts = and_parts (ltb n 2048) (leb (length bs) 8) is in
-    let below = ltb-true n 2048 parts.0 in
-    (omega arith, leb-true (length bs) 8 parts.1)
+frame_good n bs is = grind (arith, nat_tests)
 
 -- a frame that is made of a letter holds it
 pub frame_made : (n : ℕ) (bs : List ℕ) (made : Option Frame) (f : Frame) → made ≡ Some f → option_map contents made ≡ cond (good n bs) (Some (n, bs)) None → contents f ≡ (n, bs)
@@ -75,20 +72,13 @@ frame_made n bs made f is so = grind arith
 
 -- ---- good, or refused
 
-cond_none : {A : Type 0} (b : Bool) (x : A) (o : Option A) → cond b (Some x) o ≡ None → (b ≡ false) × (o ≡ None)
-cond_none true x o e = cc
-cond_none false x o e = (refl, e)
-
 pub bad_byte_none : (i x : ℕ) (xs : List ℕ) → bad_byte i (x ∷ xs) ≡ None → (x ≤ 255) × (bad_byte (suc i) xs ≡ None)
 unfolding bad_byte
-bad_byte_none i x xs none = let parts = cond_none (ltb 255 x) (Byte i) (bad_byte (suc i) xs) none in (ltb-false 255 x parts.0, parts.1)
+bad_byte_none i x xs none = grind (arith, nat_tests)
 
 pub bad_letter_none : (n : ℕ) (bs : List ℕ) → bad_letter n bs ≡ None → (n ≤ 2047) × (length bs ≤ 8) × (bad_byte 0 bs ≡ None)
 unfolding bad_letter
-bad_letter_none n bs none =
-    let name = cond_none (ltb 2047 n) Name _ none in
-    let few = cond_none (ltb 8 (length bs)) (Count (length bs)) (bad_byte 0 bs) name.1 in
-    (ltb-false 2047 n name.0, ltb-false 8 (length bs) few.0, few.1)
+bad_letter_none n bs none = grind (arith, nat_tests)
 
 bytes_good : (i : ℕ) (bs : List ℕ) → bad_byte i bs ≡ None → AllByRecursion (λ x. x ≤ 255) bs
 bytes_good i [] none = tt

@@ -1,12 +1,11 @@
 -- What becomes of a line: what is answered and kept after a letter, of which capping the numbers changes nothing, since a number
--- that is capped is too large in any case (`after_good`, `after_bad`), and after `line` (`after_line`, `after_no_line`); and which letter is the current one
--- after any lines (`line_of_last`).
+-- that is capped is too large in any case (`after_good`, `after_bad`), and after `line` (`after_line`, `after_no_line`); and which
+-- letter is the current one after any lines (`line_of_last`).
 -- Assumes nothing.
-use Rattle.std.proofs.Common.{◌≡◌, ℕ, zero, suc, ◌-◌, ◌^◌, ◌<◌, ◌≤◌, cond, ltb, ◌⊎◌, List, [], ◌∷◌, ◌++◌, map, length, take, set, replicate, Some, None, Ok, Err, Option, Result, sym, refl, ap, ◌∙◌, ap₂, inl, inr, arith}
-use native.Mathlib.Nat.{sub-zero}
-use lib.Seq.{take-nil}
+use Rattle.std.proofs.Common.{◌≡◌, ℕ, zero, suc, ◌-◌, ◌^◌, ◌<◌, cond, ltb, List, [], ◌∷◌, ◌++◌, map, length, take, set, replicate, Some, None, Ok, Err, Option, Result, sym, refl, ap, ◌∙◌, ap₂, arith}
 use Rattle.std.proofs.lemmas.List.{get_or-set_same, length-map, length-set}
-use Rattle.std.proofs.lemmas.Bool.{cases_lt, lt-ltb, le-ltb}
+use Rattle.std.proofs.lemmas.Bool.Decides.{nat_tests}
+use Rattle.std.proofs.lemmas.Grind.{common_steps}
 use Rattle.std.specs.Option.{option_map}
 use Rattle.frame.specs.Contents.{contents, frame_data, line_bits}
 use Rattle.frame.specs.Line.{line}
@@ -34,11 +33,7 @@ capped_small n h = omega arith
 
 ltb_capped : (m n : ℕ) → m < 2 ^ 64 - 1 → ltb m (capped n) ≡ ltb m n
 unfolding capped
-ltb_capped m n h = either (cases_lt m n)
-  where
-    either : (m < n) ⊎ (n ≤ m) → ltb m (capped n) ≡ ltb m n
-    either (inl less) = lt-ltb m (capped n) (omega arith) ∙ sym (lt-ltb m n less)
-    either (inr more) = le-ltb m (capped n) (omega arith) ∙ sym (le-ltb m n more)
+ltb_capped m n h = grind (arith, nat_tests)
 
 bad_byte-capped : (i : ℕ) (bs : List ℕ) → bad_byte i (map capped bs) ≡ bad_byte i bs
 unfolding bad_byte
@@ -87,7 +82,7 @@ map_replicate f (suc n) x = ap (λ l. f x ∷ l) (map_replicate f n x)
 
 -- an empty list made longer is filled up
 pub filled : {A : Type 0} (old new : List A) (len n : ℕ) (x : A) → old ≡ [] → len ≡ 0 → new ≡ take n old ++ replicate (n - len) x → new ≡ replicate n x
-filled old new len n x none zero-long e = e ∙ rw (none, zero-long, take-nil n, sub-zero n)
+filled old new len n x none zero-long e = grind (arith, common_steps)
 
 -- ---- what becomes of a line
 

@@ -13,8 +13,8 @@
 --   Good n bs          a letter of which a good frame can be made, and none of its bytes is above 255
 --   GoodOrRefused      a letter is good if and only if it is not refused
 --   InOrder n bs       what is refused of a letter, in the order of the questions
---   RefusedInOrder     a name that is too large is refused at 0; else too many bytes at their number; else the first byte
---                      that is too large at its place
+--   RefusedInOrder     a name that is too large is refused first; else too many bytes, with how many they are; else the first
+--                      byte that is too large, with its place
 --   RefusedSame        what is refused changes nothing
 --   after_all rs k     what is kept after lines that were read as rs, where k was kept
 --   newer r o          the last good letter once r was read, where it was o

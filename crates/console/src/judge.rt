@@ -1,6 +1,6 @@
 // A letter, judged: a frame if it is good, else a refusal. A name above 2047 is refused first, then more than eight bytes, then
 // a byte above 255.
-ghost use Rattle.std.specs.Prelude.{◌≡◌, ℕ, ◌≤◌, List, length, Some, None, MatchResult};
+ghost use Rattle.std.specs.Prelude.{◌≡◌, ℕ, ◌≤◌, List, length, MatchResult};
 ghost use Rattle.console.specs.Commands.{Holds};
 ghost use Rattle.console.specs.Refusals.{Judged, bad_byte};
 
@@ -16,7 +16,7 @@ impl TryFrom<Letter> for Frame {
 
     ghost try_from_gives = { λ letter r. (ns : List ℕ) → Holds letter.bytes ns → Judged letter.name ns r };
 
-    fn try_from(letter: Letter) -> Result<Frame, Refusal> {
+    fn try_from(letter: Letter) -> Result<Self, Refusal> {
         if letter.name > LARGEST_NAME {
             return Err(Refusal::Name);
         }

@@ -9,10 +9,11 @@ ghost use Rattle.console.specs.Sessions.{state, current_letter, no_letters, kept
 use crate::command::{Command, read_command};
 use crate::refusal::Refusal;
 use crate::session::Session;
-use frame::{Frame, Line};
+use frame::{Frame, LARGEST_ID, Line};
 use std::alloc::{AllocError, Global};
 
-const NAMES: usize = 2048;
+// How many names there are.
+const NAMES: usize = LARGEST_ID as usize + 1;
 
 impl Session {
     // A session that keeps no letter yet.

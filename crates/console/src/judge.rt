@@ -6,10 +6,8 @@ ghost use Rattle.console.specs.Refusals.{Judged, bad_byte};
 
 use crate::letter::Letter;
 use crate::refusal::Refusal;
-use frame::{Frame, MOST_BYTES};
+use frame::{Frame, LARGEST_ID, MOST_BYTES};
 use row::Row;
-
-const LARGEST_NAME: u64 = 2047;
 
 impl TryFrom<Letter> for Frame {
     type Error = Refusal;
@@ -17,7 +15,7 @@ impl TryFrom<Letter> for Frame {
     ghost try_from_gives = { λ letter r. (ns : List ℕ) → Holds letter.bytes ns → Judged letter.name ns r };
 
     fn try_from(letter: Letter) -> Result<Self, Refusal> {
-        if letter.name > LARGEST_NAME {
+        if letter.name > LARGEST_ID {
             return Err(Refusal::Name);
         }
         let count = letter.bytes.count;

@@ -6,8 +6,8 @@ use Rattle.console.proofs.RefusalLaws.{bad_name, bad_length, bad_bytes, frame_ma
 use Rattle.console.specs.declared.refusal.Refusal.TheVariants.{Count}
 use Rattle.console.proofs.judge.FrameTryFromLetter.try_from.Goals as goal
 
-pub returns-then-letter-gt-LARGEST_NAME : goal.returns-then-letter-gt-LARGEST_NAME
-returns-then-letter-gt-LARGEST_NAME c = λ ns holds. bad_name _ ns (omega arith)
+pub returns-then-letter-gt-LARGEST_ID : goal.returns-then-letter-gt-LARGEST_ID
+returns-then-letter-gt-LARGEST_ID c = λ ns holds. bad_name _ ns (omega arith)
 
 pub returns-then-count-gt-MOST_BYTES : goal.returns-then-count-gt-MOST_BYTES
 returns-then-count-gt-MOST_BYTES c = λ ns holds. bad_length _ ns (omega arith) (omega arith) ∙ ap (λ n. Some (Count n)) (sym holds.count)

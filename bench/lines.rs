@@ -39,50 +39,104 @@ fn fields(id: u64, data: &[u8]) -> (u128, u32) {
 }
 
 // The proved maker's shape: two makers that call each other, over one struct.
+#[derive(Clone, Copy)]
+struct Row<T, const N: usize> {
+    places: [T; N],
+    len: usize,
+}
+
+impl<T: Copy + Default, const N: usize> Row<T, N> {
+    fn new() -> Self {
+        Row { places: [T::default(); N], len: 0 }
+    }
+
+    fn push(&mut self, value: T) -> Result<(), ()> {
+        if self.len == N {
+            return Err(());
+        }
+        self.places[self.len] = value;
+        self.len += 1;
+        Ok(())
+    }
+
+    fn extend_from_slice(&mut self, values: &[T]) -> Result<(), ()> {
+        if values.len() > N - self.len {
+            return Err(());
+        }
+        let end = self.len + values.len();
+        self.places[self.len..end].copy_from_slice(values);
+        self.len = end;
+        Ok(())
+    }
+
+    fn as_slice(&self) -> &[T] {
+        &self.places[..self.len]
+    }
+}
+
+#[derive(Clone, Copy)]
+struct Run {
+    bit: bool,
+    count: u8,
+}
+
+impl Run {
+    fn with(self, bit: bool) -> Run {
+        if self.bit == bit { Run { bit, count: self.count.saturating_add(1) } } else { Run { bit, count: 1 } }
+    }
+}
+
+struct Fields {
+    number: u128,
+    width: u32,
+}
+
+impl Iterator for Fields {
+    type Item = bool;
+
+    fn next(&mut self) -> Option<bool> {
+        self.width = self.width.checked_sub(1)?;
+        Some(self.number / (1 << self.width) % 2 == 1)
+    }
+}
+
 struct Maker {
-    fields: u128,
-    left: u32,
-    last: bool,
-    run: u8,
-    bits: [bool; LONGEST],
-    at: usize,
+    fields: Fields,
+    run: Run,
+    bits: Row<bool, LONGEST>,
 }
 
 impl Maker {
     fn put_row(&mut self) {
-        if self.left == 0 {
-            return;
-        }
-        self.left -= 1;
-        self.put(self.fields / (1 << self.left) % 2 == 1);
+        let Some(bit) = self.fields.next() else { return };
+        self.put(bit);
         self.put_stuff_bit();
     }
 
     fn put_stuff_bit(&mut self) {
-        if self.run == 5 {
-            self.put(!self.last);
+        if self.run.count == 5 {
+            self.put(!self.run.bit);
         }
         self.put_row();
     }
 
     fn put(&mut self, bit: bool) {
-        self.run = if bit == self.last { self.run + 1 } else { 1 };
-        self.last = bit;
-        self.bits[self.at] = bit;
-        self.at += 1;
+        self.run = self.run.with(bit);
+        self.bits.push(bit).unwrap();
     }
 }
 
 fn by_makers(id: u64, data: &[u8], room: &mut [u8]) -> usize {
-    let (fields, left) = fields(id, data);
-    let mut maker = Maker { fields, left, last: true, run: 0, bits: [true; LONGEST], at: 0 };
-    maker.put(false);
+    let (number, width) = fields(id, data);
+    let mut maker = Maker { fields: Fields { number, width }, run: Run { bit: false, count: 1 }, bits: Row::new() };
+    maker.bits.push(false).unwrap();
     maker.put_row();
-    let len = maker.at + 7;
-    for (place, bit) in room.iter_mut().zip(&maker.bits[..len]) {
+    maker.bits.extend_from_slice(&[true; 7]).unwrap();
+    let line = maker.bits;
+    for (place, bit) in room.iter_mut().zip(line.as_slice()) {
         *place = u8::from(*bit);
     }
-    len
+    line.len
 }
 
 // What one would write without the proved maker's shape: one loop that writes to the room.

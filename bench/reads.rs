@@ -52,62 +52,76 @@ fn letter(fields: u128, len: u32, end: usize, room: &mut [u8]) -> Letter {
 
 // The proved reader's shape: a value for what was heard, and a function that takes it and one bit more.
 #[derive(Clone, Copy)]
-struct Reader {
-    fields: u128,
+struct Run {
+    bit: bool,
+    count: u8,
+}
+
+impl Run {
+    fn new(bit: bool) -> Run {
+        Run { bit, count: 1 }
+    }
+
+    fn with(self, bit: bool) -> Run {
+        if self.bit == bit { Run { bit, count: self.count.saturating_add(1) } } else { Run::new(bit) }
+    }
+}
+
+#[derive(Clone, Copy)]
+struct Prefix {
+    number: u128,
     count: u32,
     len: u32,
     check: u16,
-    last: bool,
-    run: u8,
-    end: u8,
+}
+
+#[derive(Clone, Copy)]
+struct Reader {
+    fields: Prefix,
+    run: Run,
+    end: usize,
 }
 
 enum Heard {
     Within(Reader),
-    Line,
-    Broken,
+    Line(Prefix),
 }
 
-impl Reader {
-    fn hear(self, bit: bool) -> Heard {
-        if self.run == 5 {
-            if bit == self.last {
-                return Heard::Broken;
-            }
-            Heard::Within(Reader { last: bit, run: 1, ..self })
-        } else if self.count == 30 + 8 * self.len {
-            if !bit {
-                return Heard::Broken;
-            }
-            if self.end == 6 {
-                return Heard::Line;
-            }
-            Heard::Within(Reader { end: self.end + 1, ..self })
-        } else {
-            self.field(bit)
-        }
-    }
-
-    fn field(self, bit: bool) -> Heard {
+impl Prefix {
+    fn push(self, bit: bool) -> Option<Prefix> {
         let mut len = self.len;
         if self.count >= 11 && self.count < 15 {
             len = 2 * len + u32::from(bit);
             if len << (14 - self.count) > 8 {
-                return Heard::Broken;
+                return None;
             }
         }
         if self.count >= 15 + 8 * self.len && bit != (self.check >> 14 & 1 == 1) {
-            return Heard::Broken;
+            return None;
         }
-        Heard::Within(Reader {
-            fields: 2 * self.fields + u128::from(bit),
-            count: self.count + 1,
-            len,
-            check: step(self.check, bit),
-            last: bit,
-            run: if bit == self.last { self.run + 1 } else { 1 },
-            end: 0,
-        })
+        Some(Prefix { number: 2 * self.number + u128::from(bit), count: self.count + 1, len, check: step(self.check, bit) })
+    }
+}
+
+impl Reader {
+    fn hear(self, bit: bool) -> Option<Heard> {
+        if self.run.count == 5 {
+            if bit == self.run.bit {
+                return None;
+            }
+            Some(Heard::Within(Reader { run: Run::new(bit), ..self }))
+        } else if self.fields.count == 30 + 8 * self.fields.len {
+            if !bit {
+                return None;
+            }
+            if self.end == 6 {
+                return Some(Heard::Line(self.fields));
+            }
+            Some(Heard::Within(Reader { end: self.end + 1, ..self }))
+        } else {
+            let fields = self.fields.push(bit)?;
+            Some(Heard::Within(Reader { fields, run: self.run.with(bit), end: 0 }))
+        }
     }
 }
 
@@ -119,12 +133,12 @@ fn by_reader(bits: &[u8], room: &mut [u8]) -> Option<Letter> {
     if !are_bits(bits) || bits.first() != Some(&0) {
         return None;
     }
-    let mut reader = Reader { fields: 0, count: 0, len: 0, check: 0, last: false, run: 1, end: 0 };
+    let fields = Prefix { number: 0, count: 0, len: 0, check: 0 };
+    let mut reader = Reader { fields, run: Run::new(false), end: 0 };
     for (place, bit) in bits[1..].iter().enumerate() {
-        match reader.hear(bit % 2 == 1) {
+        match reader.hear(bit % 2 == 1)? {
             Heard::Within(next) => reader = next,
-            Heard::Line => return Some(letter(reader.fields, reader.len, place + 2, room)),
-            Heard::Broken => return None,
+            Heard::Line(fields) => return Some(letter(fields.number, fields.len, place + 2, room)),
         }
     }
     None

@@ -7,7 +7,8 @@ use frame::Frame;
 
 #[derive(Drop)]
 pub struct Session {
-    // At the place of each name the letter of that name.
+    // At the place of each name the letter of that name. A map would ask for memory to keep a letter, and a line is answered even
+    // where there is none left.
     pub(crate) kept: Vec<Option<Frame>>,
     // The name of the current letter.
     pub(crate) current: Option<u16>,

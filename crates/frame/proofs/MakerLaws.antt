@@ -31,12 +31,14 @@ one_place m n b one = ap length one ∙ length-append m.bits.items (b ∷ [])
 
 -- the maker taken is m without the first bit b of its fields, and n has put that bit
 module _ (m taken n : Maker) (b : Bool) (first : left m ≡ b ∷ left taken) (run_same : taken.run ≡ m.run) (bits_same : taken.bits ≡ m.bits) (put : HasPut b taken n) where
+  counted : n.run.count ≡ run m.run.bit m.run.count b
+  counted = put.count ∙ ap (λ r. run r.bit r.count b) run_same
+
   rest_first : rest m ≡ b ∷ rest_due n
   unfolding stuff
   rest_first =
-      let count : n.run.count ≡ run m.run.bit m.run.count b = put.count ∙ ap (λ r. run r.bit r.count b) run_same in
       let same : left taken ≡ left n = sym (ap (λ f. bits_of f.width f.number) put.fields) in
-      ap (stuff m.run.bit m.run.count) (first ∙ ap (λ r. b ∷ r) same) ∙ ap₂ (λ c k. b ∷ stuff_due c k (left n)) (sym put.bit) (sym count)
+      ap (stuff m.run.bit m.run.count) (first ∙ ap (λ r. b ∷ r) same) ∙ ap₂ (λ c k. b ∷ stuff_due c k (left n)) (sym put.bit) (sym counted)
 
   one_more : n.bits.items ≡ m.bits.items ++ b ∷ []
   one_more = put.bits ∙ ap (λ r. r.items ++ b ∷ []) bits_same
@@ -44,8 +46,7 @@ module _ (m taken n : Maker) (b : Bool) (first : left m ≡ b ∷ left taken) (r
   -- what is left fits the room, and goes on fitting once a bit is put
   pub row_fits : m.run.count ≤ 4 → length m.bits.items + length (rest m) ≤ 125 → Fits 5 n (rest_due n)
   row_fits few fits =
-      let count : n.run.count ≡ run m.run.bit m.run.count b = put.count ∙ ap (λ r. run r.bit r.count b) run_same in
-      (omega (arith, count, run_most m.run.bit m.run.count b), omega (arith, ap length rest_first, one_place m n b one_more))
+      (omega (arith, counted, run_most m.run.bit m.run.count b), omega (arith, ap length rest_first, one_place m n b one_more))
 
   pub row_puts : (after : Maker) → Puts n (rest_due n) after → Puts m (rest m) after
   row_puts after puts = puts_more m n b (rest_due n) (rest m) after one_more rest_first puts

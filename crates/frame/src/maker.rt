@@ -43,13 +43,13 @@ impl Maker {
     fn new(frame: &Frame) -> Self
         ensures { Started frame.now result }
     {
-        let mut bits = Row::new();
-        bits.push(START).unwrap();
-        Maker {
+        let mut maker = Maker {
             fields: Fields::from(frame),
             run: Run::new(START),
-            bits,
-        }
+            bits: Row::new(),
+        };
+        maker.bits.push(START).unwrap();
+        maker
     }
 
     // Puts what is left of the fields.

@@ -17,6 +17,7 @@ impl fmt::Display for Line {
     }
 }
 
+// A function, since neither type is ours, so that no `From` of ours can turn one into the other.
 fn digit_of(high: bool) -> char
     ensures { encode_utf8 result ≡ digit high ∷ [] }
 {

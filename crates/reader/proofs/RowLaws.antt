@@ -25,14 +25,15 @@ module _ (row letter : List ℕ) (i : ℕ) (long : 10 * i + 10 ≤ length row) (
   count_there : get_or letter 1 0 ≡ count_at row i
   count_there = ap (λ l. get_or l 1 0) is ∙ get_or-take 10 (drop (10 * i) row) 1 0 (omega arith) ∙ get_or-drop (10 * i) row 1 0
 
+  ten : length letter ≡ 10
+  ten = ap length is ∙ length-take-le 10 (drop (10 * i) row) (omega (arith, length-drop (10 * i) row))
+
   no_part : length letter < 2 + get_or letter 1 0 → bytes_at row i ≡ []
   no_part many =
-      let ten : length letter ≡ 10 = ap length is ∙ length-take-le 10 (drop (10 * i) row) (omega (arith, length-drop (10 * i) row)) in
       cond-false (has_frame row i) _ _ (and_right (leb (10 * i + 10) (length row)) (leb (count_at row i) 8) (lt-leb (count_at row i) 8 (omega (arith, many, ten, count_there))))
 
   part_at : 2 + get_or letter 1 0 ≤ length letter → take (2 + get_or letter 1 0 - 2) (drop 2 letter) ≡ bytes_at row i
   part_at few =
-      let ten : length letter ≡ 10 = ap length is ∙ length-take-le 10 (drop (10 * i) row) (omega (arith, length-drop (10 * i) row)) in
       let count : 2 + get_or letter 1 0 - 2 ≡ count_at row i = omega (arith, count_there) in
       let small : count_at row i ≤ 8 = omega (arith, few, ten, count_there) in
       let there : has_frame row i ≡ true = and_from (leb (10 * i + 10) (length row)) (leb (count_at row i) 8) (le-leb (10 * i + 10) (length row) long) (le-leb (count_at row i) 8 small) in

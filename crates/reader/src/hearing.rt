@@ -30,7 +30,8 @@ impl Reader {
     }
 
     // One bit more: a stuff bit where one is due, else one of the fields, and behind them one of the end; nothing where no good
-    // frame's line goes on so.
+    // frame's line goes on so. What comes next is told by what was heard, so there is no step to keep; a table of the three steps would
+    // say the same conditions again.
     pub(crate) fn hear(self, bit: bool) -> Option<Heard>
         ensures { Goes self bit result }
     {

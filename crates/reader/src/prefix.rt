@@ -7,6 +7,8 @@ ghost use Rattle.reader.specs.Reading.{length_in};
 
 use bits::Crc;
 
+// It grows by a bit at its low end, where what a maker has left of the fields loses one at its high end: a type for both would have to
+// refuse a bit too many, and have no method that both call.
 #[derive(Clone, Copy)]
 pub struct Prefix {
     // The bits, as the lowest of a number, and how many there are.

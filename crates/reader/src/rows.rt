@@ -1,4 +1,5 @@
-// Frames in a row of numbers, ten for each: its name, how many bytes it has, and eight places for these.
+// Frames in a row of numbers, ten for each: its name, how many bytes it has, and eight places for these. That is how whoever calls the
+// entry has them, in C too, so that they are no structs.
 ghost use Rattle.std.specs.Prelude.{◌≡◌, ◌+◌, ◌*◌, ◌<◌, ◌≤◌, [], length, take, drop, MatchOption};
 ghost use Rattle.reader.specs.Rows.{bytes_at};
 

@@ -17,6 +17,8 @@ pub enum Heard {
     Line(Frame),
 }
 
+// `Goes` stands in four contracts: it relates what is asked to what is answered, so that no type can have it, and `hear` promises what
+// each of its three steps does.
 impl Reader {
     // A reader that has heard the start.
     pub(crate) fn new() -> Self

@@ -7,7 +7,8 @@ use crate::crc_table::crc_of_byte;
 
 const POLYNOMIAL: u16 = 17817;
 
-const BITS: u32 = 15;
+// How many bits a check has.
+pub const CRC_BITS: u32 = 15;
 
 // A check of 15 bits, of what was pushed so far.
 #[derive(Clone, Copy)]
@@ -34,7 +35,7 @@ impl Crc {
     pub fn highest(self) -> bool
         ensures { result ≡ bit_at self.value 14 }
     {
-        self.value / (1 << (BITS - 1)) % 2 == 1
+        self.value / (1 << (CRC_BITS - 1)) % 2 == 1
     }
 
     // One bit more.
@@ -42,7 +43,7 @@ impl Crc {
         ensures { result.value ≡ crc_step self.value bit }
     {
         let highest = self.highest();
-        let doubled = 2 * self.value % (1 << BITS);
+        let doubled = 2 * self.value % (1 << CRC_BITS);
         let value = if bit != highest {
             doubled ^ POLYNOMIAL
         } else {

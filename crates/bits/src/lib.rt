@@ -6,5 +6,5 @@ mod crc_table;
 pub mod laws;
 mod numbers;
 
-pub use crc::{Crc, frame_crc};
+pub use crc::{CRC_BITS, Crc, frame_crc};
 pub use numbers::{bit_at, number_of, write_bits};

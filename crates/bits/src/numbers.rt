@@ -10,16 +10,16 @@ pub fn bit_at(x: u128, place: u32) -> bool
     place < u128::BITS && x / (1 << place) % 2 == 1
 }
 
-// Fills `out` with as many of the lowest bits of `x` as it has places, the highest first. It goes by places, since of a slice that is
-// written through an adapter of `iter_mut`, as `rev`, only the length is known: that was tried, and the proof didn't close.
+// Fills `out` with as many of the lowest bits of `x` as it has places, the highest first.
 pub fn write_bits(x: u64, out: &mut [bool])
     ensures { out.new ≡ bits_of (length out.old) x }
 {
     let mut rest = x;
-    for i in (0..out.len()).rev() {
-        out[i] = rest % 2 == 1;
+    for bit in out.iter_mut() {
+        *bit = rest % 2 == 1;
         rest /= 2;
     }
+    out.reverse();
 }
 
 // The number that `bits` write, the highest first, if it is below 2 to the power of 64.

@@ -1,19 +1,21 @@
 // How many bits each field of a frame takes, how many values it has, and some fields together.
 
+use bits::CRC_BITS;
+
 pub const ID: u32 = 11;
 
 pub const LENGTH: u32 = 4;
 
 pub const BYTE: u32 = 8;
 
-pub const CHECK: u32 = 15;
+pub const CHECK: u32 = CRC_BITS;
 
 // How many values a length, a byte and a check have.
-pub const LENGTHS: u128 = 1 << LENGTH;
+pub(crate) const LENGTHS: u128 = 1 << LENGTH;
 
-pub const BYTES: u128 = 1 << BYTE;
+pub(crate) const BYTES: u128 = 1 << BYTE;
 
-pub const CHECKS: u128 = 1 << CHECK;
+pub(crate) const CHECKS: u128 = 1 << CHECK;
 
 // The identifier and the length, which come first.
 pub const HEADER: u32 = ID + LENGTH;

@@ -38,7 +38,7 @@ fn fields(id: u64, data: &[u8]) -> (u128, u32) {
     (plain * 32768 + u128::from(check(id, data)), 30 + 8 * data.len() as u32)
 }
 
-// The proved maker's shape: two makers that call each other, over one struct.
+// A row and a run, as the proved code has them.
 #[derive(Clone, Copy)]
 struct Row<T, const N: usize> {
     places: [T; N],
@@ -100,6 +100,7 @@ impl Iterator for Fields {
     }
 }
 
+// The proved maker's shape: two makers that call each other, over one struct.
 struct Maker {
     fields: Fields,
     run: Run,

@@ -50,7 +50,7 @@ fn letter(fields: u128, len: u32, end: usize, room: &mut [u8]) -> Letter {
     ((plain >> (4 + 8 * len)) as u64, u64::from(len), end as u64)
 }
 
-// The proved reader's shape: a value for what was heard, and a function that takes it and one bit more.
+// A run, and the first bits of the fields, as the proved code has them.
 #[derive(Clone, Copy)]
 struct Run {
     bit: bool,
@@ -75,6 +75,7 @@ struct Prefix {
     check: u16,
 }
 
+// The proved reader's shape: a value for what was heard, and a function that takes it and one bit more.
 #[derive(Clone, Copy)]
 struct Reader {
     fields: Prefix,

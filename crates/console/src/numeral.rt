@@ -1,4 +1,5 @@
-// Numbers in decimal digits.
+// Numbers in decimal digits. The library's `parse` would take a sign, and refuse a number that is too large, which has to be read here so that
+// it is refused as what it is.
 ghost use Rattle.std.specs.Prelude.{◌≡◌};
 ghost use Rattle.std.specs.Option.{option_map};
 ghost use Rattle.console.specs.Numeral.{number_in, capped};

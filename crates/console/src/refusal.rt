@@ -2,6 +2,8 @@
 ghost use Rattle.std.specs.Prelude.{◌≡◌};
 ghost use Rattle.console.specs.Refusals.{refusal_number, refusal_place};
 
+use frame::Refusal as Entry;
+
 #[derive(Clone, Copy, Debug, PartialEq, Eq)]
 pub enum Refusal {
     // A letter whose name is above 2047.
@@ -20,7 +22,7 @@ impl Refusal {
         ensures { result ≡ refusal_number self }
     {
         match self {
-            Refusal::Name | Refusal::Count(_) | Refusal::Byte(_) => 1,
+            Refusal::Name | Refusal::Count(_) | Refusal::Byte(_) => Entry::BadLetter.number(),
             Refusal::Unreadable(_) => 4,
         }
     }

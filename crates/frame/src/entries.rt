@@ -26,8 +26,9 @@ pub fn make_line(name: u64, bytes: &[u8], room: &mut [u8]) -> Done
     Done::Made(len as u64)
 }
 
-// Writes `line` to the front of `room`, as numbers 0 and 1. It goes by places, since of a slice that is written through an adapter
-// of `iter_mut`, as `zip`, only the length is known: that was tried, and the proof didn't close.
+// Writes `line` to the front of `room`, as numbers 0 and 1. It goes by places, which is plainer than the other loop that proves: one over
+// the room, which takes the bits one by one by `next` and breaks off behind the last. A `zip` doesn't prove, since of a slice that is
+// written through an adapter of `iter_mut` only the length is known.
 fn write_front(line: &[bool], room: &mut [u8])
     requires { length line.now ≤ length room.old }
     ensures { room.new ≡ map bit line.now ++ drop (length line.now) room.old }

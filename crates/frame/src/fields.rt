@@ -10,7 +10,8 @@ use crate::frame::Frame;
 use crate::widths::{BYTE, BYTES, CHECKS, FIXED, LENGTHS};
 use bits::{bit_at, frame_crc};
 
-// The bits of the fields, or what is left of them: the lowest of a number.
+// The bits of the fields, or what is left of them: the lowest of a number. A reader's first bits of the fields lie so too, but grow at
+// their low end, so that the two have no method in common.
 #[derive(Clone, Copy)]
 pub(crate) struct Fields {
     pub(crate) number: u128,

@@ -1,5 +1,6 @@
 // The maker of a line. A maker of rows puts the fields' bits, and a maker of stuff bits puts one where one is due; each hands on
-// to the other. What they share stands behind one reference, so that a compiler can make one loop of the two.
+// to the other, since what is put in counts as any other bit. So each has one rule and a contract of its own, where a loop would hold both.
+// What they share stands behind one reference, so that a compiler can make one loop of the two.
 ghost use Rattle.std.specs.Prelude.{◌≡◌, ◌+◌, ◌≤◌, ◌++◌, not, length};
 ghost use Rattle.frame.specs.Contents.{frame_data, line_bits};
 ghost use Rattle.frame.specs.Line.{start, end, line};
@@ -94,7 +95,7 @@ impl Maker {
         self.bits.push(bit).unwrap();
     }
 
-    // The line: what was put, and behind it high bits for its end.
+    // The line: what was put, and behind it high bits for its end. The maker is lent, which spares a copy.
     fn finish(&mut self) -> Line
         requires { length self.old.bits.items + length end ≤ 125 }
         ensures { line_bits result ≡ self.old.bits.items ++ end }

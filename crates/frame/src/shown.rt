@@ -1,7 +1,7 @@
 // A line as text: a digit for each bit.
-ghost use Rattle.std.specs.Prelude.{◌≡◌, [], ◌∷◌, Some, encode_utf8};
+ghost use Rattle.std.specs.Prelude.{Some};
 ghost use Rattle.frame.specs.Contents.{line_bits};
-ghost use Rattle.frame.specs.Digits.{digit, digits};
+ghost use Rattle.frame.specs.Digits.{digits};
 
 use crate::line::Line;
 use std::fmt;
@@ -11,15 +11,8 @@ impl fmt::Display for Line {
 
     fn fmt<W: fmt::Write>(&self, f: &mut fmt::Formatter<W>) -> fmt::Result {
         for high in self.bits() {
-            f.write_char(digit_of(*high))?;
+            f.write_char(if *high { '1' } else { '0' })?;
         }
         Ok(())
     }
-}
-
-// A function, since neither type is ours, so that no `From` of ours can turn one into the other.
-fn digit_of(high: bool) -> char
-    ensures { encode_utf8 result ≡ digit high ∷ [] }
-{
-    if high { '1' } else { '0' }
 }

@@ -1,16 +1,16 @@
 -- What holds of the numbers that the entry reads: where none of them is above 1 they are bits (`bits_small`), and a line stands at the beginning
 -- of numbers if it does so of their bits (`reads_standing`, `standing_reads`). Rests on the laws of lists and of reading. Assumes nothing else.
-use Rattle.std.proofs.Common.{◌≡◌, ℕ, zero, suc, ◌<◌, ◌≤◌, Bool, true, false, cond, ◌&&◌, leb, ◌⊎◌, List, [], ◌∷◌, ◌++◌, map, length, get_or, take, drop, is_some, Some, None, Option, sym, refl, ap, ◌∙◌, subst, ap₂, inl, inr, arith}
-use Rattle.std.proofs.lemmas.List.{length-map, map-append, take_at}
+use Rattle.std.proofs.Common.{◌≡◌, ℕ, zero, suc, ◌<◌, ◌≤◌, Bool, true, false, cond, ◌&&◌, leb, ◌⊎◌, List, [], ◌∷◌, ◌++◌, map, length, get_or, drop, is_some, Some, None, Option, sym, refl, ap, ◌∙◌, subst, ap₂, inl, inr, arith}
+use Rattle.std.proofs.lemmas.List.{map-append}
 use Rattle.std.proofs.lemmas.Bool.{and_from, and_parts, cond-false, cond-true, eq-eqb, le-leb}
 use Rattle.bits.specs.Bits.{bit, bit_at}
-use Rattle.frame.specs.Entries.{made, make_answer, make_room, read}
+use Rattle.frame.specs.Entries.{make_room, read}
 use Rattle.frame.specs.Good.{all_bytes, good, good_frame}
 use Rattle.frame.specs.Line.{line}
 use Rattle.reader.proofs.PlaceLaws.{none_above}
 use Rattle.reader.proofs.ReadingLaws.{nothing_standing, one_reading, standing_found}
 use Rattle.reader.specs.Entries.{ReadBy, ReadFrame, ReadNothing, ReadSays, Reads, read_answer, read_refusal, read_room}
-use Rattle.reader.specs.Laws.{ReadThenMade, MadeThenRead}
+use Rattle.reader.specs.Laws.{MadeThenRead}
 use Rattle.reader.specs.Places.{first_above}
 use Rattle.reader.specs.Reading.{Stands, found}
 use Rattle.reader.specs.Seen.{lowest}
@@ -90,28 +90,6 @@ handed_over bs r f o s accepted is answer room = subst (λ k. ReadBy k bs r o s)
 -- a good frame is a good letter, which is all that is asked where a line is made
 good_letter : (id : ℕ) (xs : List ℕ) → good_frame id xs ≡ true → good id xs ≡ true
 good_letter id xs e = (and_parts (good id xs) (all_bytes xs) e).0
-
--- answers are told apart by their numbers
-by_answer : (k : ℕ) (bs r : List ℕ) (n l e : ℕ) (s : List ℕ) → ReadBy k bs r (read n l e) s → ReadFrame bs r (read n l e) s
-by_answer zero bs r n l e s (inl frame) = frame
-by_answer zero bs r n l e s (inr none) = absurd (omega (arith, ap (λ o. o.0) none.answer))
-by_answer (suc k) bs r n l e s refusal = absurd (omega (arith, ap (λ o. o.0) refusal.answer))
-
-pub read_then_made : ReadThenMade
-read_then_made bs r s n k e room says fits =
-    let frame = by_answer (read_refusal bs r) bs r n k e s says in
-    let is_good = good_letter frame.id frame.bytes frame.stands.is_good in
-    let row : List Bool = line frame.id frame.bytes in
-    let name : n ≡ frame.id = ap (λ o. get_or o.1 0 0) frame.answer in
-    let count : k ≡ length frame.bytes = ap (λ o. get_or o.1 1 0) frame.answer in
-    let ends : e ≡ length row = ap (λ o. get_or o.1 2 0) frame.answer in
-    let bytes : take k s ≡ frame.bytes = ap₂ (λ i l. take i l) count frame.written ∙ take_at frame.bytes (drop (length frame.bytes) r) (length frame.bytes) refl in
-    let enough : leb (length row) (length room) ≡ true = le-leb (length row) (length room) (omega (arith, ends, fits)) in
-    let front : take e bs ≡ map bit row = ap₂ (λ i l. take i l) ends frame.stands.these ∙ take_at (map bit row) frame.stands.behind (length row) (length-map row bit) in (
-      ap₂ (λ i xs. make_answer i xs (length room)) name bytes ∙ cond-true (good frame.id frame.bytes) _ _ is_good ∙ cond-true (leb (length row) (length room)) _ _ enough ∙ ap made (sym ends),
-      ap₂ (λ i xs. make_room i xs room) name bytes ∙ cond-true (good frame.id frame.bytes && leb (length row) (length room)) _ _ (and_from _ _ is_good enough)
-          ∙ ap₂ (λ l i. l ++ drop i room) (sym front) (sym ends),
-    )
 
 -- numbers are read in one way
 one_letter : (m n : ℕ) (xs ys bs : List ℕ) → Reads m xs bs → Reads n ys bs → (m ≡ n) × (xs ≡ ys)

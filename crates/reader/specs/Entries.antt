@@ -9,6 +9,7 @@
 --   ReadFrame bs r o s the answer o has the frame whose line stands at the beginning of bs, and where the line ends; s is r with the
 --                      frame's bytes in front
 --   ReadNothing ..     no good frame's line stands at the beginning of bs, which is what o says, and s is r
+--   ReadRefused k ..   refused by k, which is what o says, and s is r
 --   ReadBy k bs r o s  one of these if k is 0; else refused by k, and s is r
 --   ReadSays bs r o s  o is what reading bs to a room answers, and s what the room holds then, where it held r
 use Rattle.std.specs.Prelude.{◌≡◌, ℕ, zero, suc, true, cond, ◌⊎◌, List, ◌++◌, map, length, drop, is_some, Some, None, Option, ◌==◌}

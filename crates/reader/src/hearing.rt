@@ -8,7 +8,8 @@ use crate::prefix::Prefix;
 use crate::reader::Reader;
 use frame::{END, Frame, Run, START};
 
-// What one bit more makes of the bits that were heard, where some good frame's line begins with them all.
+// What one bit more makes of the bits that were heard, where some good frame's line begins with them all. The library's `ControlFlow` has
+// this shape; these names say what was heard.
 #[derive(Clone, Copy)]
 pub enum Heard {
     // They begin a line, and more is to come.

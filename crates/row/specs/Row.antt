@@ -1,5 +1,8 @@
 -- What contracts see of a row: its values, and what stands behind them, which means nothing but is copied with the row.
 -- Assumes nothing: these are definitions.
+--
+--   Row T              the values of a row, and what stands behind them
+--   row_code c         how such a value is stored, where its values are by c
 use Rattle.std.specs.Prelude.{List, refl}
 use Rattle.std.specs.Coded.{Coded, code_by, coded×, coded_list}
 

@@ -110,7 +110,7 @@ impl<T, const N: usize> Row<T, N> {
     }
 }
 
-// Rows are alike if their values are.
+// Rows are alike if their values are. A derive would compare what stands behind them too, and print it.
 impl<T: PartialEq, const N: usize> PartialEq for Row<T, N> {
     ghost eq = { λ r s. pointwise T.eq r.items s.items };
 

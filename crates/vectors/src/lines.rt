@@ -70,6 +70,7 @@ pub(crate) const UNTOUCHED: u8 = 170;
 // Bytes that have long runs or join them, so that bits are often put in, also at the fields' end.
 const RUNS: [u8; 5] = [0x00, 0xff, 0x0f, 0xf0, 0x78];
 
+// The tests have numbers of their own, so that they don't follow a wrong one.
 pub(crate) const LARGEST_NAME: u64 = 2047;
 
 // Frames of short, middling and long lines, for what is tried at every place of a line.
@@ -144,12 +145,12 @@ fn has_bits(line: &[bool], name: u64, bytes: &[u8]) -> bool {
 }
 
 fn check_both(
-    rt: &impl Abort,
-    heap: Global,
+    rt: &(impl Abort + AllocGlobal),
     line: &[bool],
     name: u64,
     bytes: &[u8],
 ) -> Result<(), Fail> {
+    let heap = rt.alloc();
     let len = bytes.len();
     assert!(rt;
         makes(heap, line, name, bytes)?,
@@ -167,7 +168,7 @@ fn known_lines(rt: HostRuntime) -> Result<(), Fail> {
     let heap = rt.alloc();
     for (name, bytes, digits) in KNOWN {
         let line: Vec<bool> = digits.bytes().map(|digit| digit == b'1').collect(heap)?;
-        check_both(&rt, heap, &line, name, bytes)?;
+        check_both(&rt, &line, name, bytes)?;
         assert!(rt;
             second::line(heap, name, bytes)? == line,
             "the second maker's line"
@@ -185,7 +186,7 @@ fn any_frame_against_the_second_maker(rt: HostRuntime) -> Result<(), Fail> {
         for len in 0..=8usize {
             let drawn = lots.bytes();
             let bytes = &drawn[0..len];
-            check_both(&rt, heap, &second::line(heap, name, bytes)?, name, bytes)?;
+            check_both(&rt, &second::line(heap, name, bytes)?, name, bytes)?;
         }
     }
     Ok(())

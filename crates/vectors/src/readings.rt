@@ -36,7 +36,7 @@ fn push_drawn(bits: &mut Vec<bool>, lots: &mut Lots, count: u64) -> Result<(), A
     Ok(())
 }
 
-// What `read_line` answers where this is found.
+// What `read_line` answers where this is found. Neither type is this crate's, so that no `From` can be.
 fn answer_to(found: &Option<Found>) -> Done {
     match found {
         Some(found) => Done::Read(found.name, found.bytes.len() as u64, found.end as u64),
@@ -66,7 +66,8 @@ fn found_in(heap: Global, reading: Option<Reading>) -> Result<Option<Found>, All
 }
 
 // Both readers read the same of these bits.
-fn check_alike(rt: &impl Abort, heap: Global, bits: &[bool]) -> Result<(), Fail> {
+fn check_alike(rt: &(impl Abort + AllocGlobal), bits: &[bool]) -> Result<(), Fail> {
+    let heap = rt.alloc();
     let found = second_reader::read(heap, bits)?;
     let mut room = [UNTOUCHED; ROOM];
     let done = read_line(&numbers(heap, bits, 0)?, &mut room);
@@ -81,12 +82,12 @@ fn check_alike(rt: &impl Abort, heap: Global, bits: &[bool]) -> Result<(), Fail>
 
 // Reading these numbers to a room of that length is refused, and the room is left untouched.
 fn check_refused(
-    rt: &impl Abort,
-    heap: Global,
+    rt: &(impl Abort + AllocGlobal),
     numbers: &[u8],
     len: usize,
     number: u64,
 ) -> Result<(), Fail> {
+    let heap = rt.alloc();
     let mut room = vec![in heap; UNTOUCHED; len]?;
     let done = read_line(numbers, &mut room);
     assert_eq!(rt; done, Done::Refused(number), "{numbers:?}, a room of {len}");
@@ -109,7 +110,7 @@ fn any_line_is_read_again(rt: HostRuntime) -> Result<(), Fail> {
             push_drawn(&mut bits, &mut lots, behind)?;
             let expected = Some(Found { name, bytes, end });
             assert_eq!(rt; second_reader::read(heap, &bits)?, expected);
-            check_alike(&rt, heap, &bits)?;
+            check_alike(&rt, &bits)?;
         }
     }
     Ok(())
@@ -140,9 +141,9 @@ fn lines_that_are_hurt(rt: HostRuntime) -> Result<(), Fail> {
         let line = second::line(heap, name, bytes)?;
         for place in 0..line.len() {
             let front = &line[0..place];
-            check_alike(&rt, heap, front)?;
-            check_alike(&rt, heap, &turned(heap, &line, place)?)?;
-            check_alike(&rt, heap, &with_drawn(heap, front, &mut lots)?)?;
+            check_alike(&rt, front)?;
+            check_alike(&rt, &turned(heap, &line, place)?)?;
+            check_alike(&rt, &with_drawn(heap, front, &mut lots)?)?;
         }
     }
     Ok(())
@@ -161,9 +162,9 @@ fn numbers_that_are_no_bits(rt: HostRuntime) -> Result<(), Fail> {
             let mut bad = good.clone()?;
             bad[place] = no_bit;
             assert_eq!(rt; place_above(1, &bad), Some(place));
-            check_refused(&rt, heap, &bad, ROOM, 2)?;
+            check_refused(&rt, &bad, ROOM, 2)?;
             for len in BAD_ROOMS {
-                check_refused(&rt, heap, &bad, len, 2)?;
+                check_refused(&rt, &bad, len, 2)?;
             }
         }
     }
@@ -175,11 +176,11 @@ fn rooms_that_are_not_eight_bytes(rt: HostRuntime) -> Result<(), Fail> {
     let heap = rt.alloc();
     let good = numbers(heap, &second::line(heap, 5, &[1])?, 0)?;
     for len in BAD_ROOMS {
-        check_refused(&rt, heap, &good, len, 3)?;
-        check_refused(&rt, heap, &[1, 0, 1], len, 3)?;
-        check_refused(&rt, heap, &[], len, 3)?;
+        check_refused(&rt, &good, len, 3)?;
+        check_refused(&rt, &[1, 0, 1], len, 3)?;
+        check_refused(&rt, &[], len, 3)?;
     }
-    check_alike(&rt, heap, &[])
+    check_alike(&rt, &[])
 }
 
 // A row of letters that all say the same length; each other number is its place, so that a part tells where it begins.

@@ -6,7 +6,7 @@ use std::io::{BufRead, BufReader, BufWriter, Write};
 
 const LINE_FEED: u8 = b'\n';
 
-const LINE_END: &[u8] = b"\n";
+const LINE_END: &[u8] = &[LINE_FEED];
 
 fn main(rt: HostRuntime) -> anyhow::Result<()> {
     run(&rt)

@@ -76,7 +76,8 @@ impl Crc {
 }
 
 // The check of a frame: of its identifier in 11 bits, how many bytes it has in 4, and the bytes.
-// These 15 bits go in as two bytes, since a low bit in front of a row changes no check.
+// These 15 bits go in as two bytes, since a low bit in front of a row changes no check. The widths stand here as numbers, since they cut
+// and join these bytes.
 pub fn frame_crc(id: u16, data: &[u8]) -> Crc
     ensures { result.value ≡ crc (covered id «data».now) }
 {

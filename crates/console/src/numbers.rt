@@ -7,6 +7,7 @@ ghost use Rattle.console.specs.Commands.{Holds};
 use frame::MOST_BYTES;
 use row::Row;
 
+// Which numbers a value stands for isn't told by it, past the eighth, so that contracts say it, as `Holds`, and not the type.
 #[derive(Clone, Copy)]
 pub struct Numbers {
     pub(crate) count: usize,

@@ -2,7 +2,8 @@
 -- of the crate does.
 -- Assumes nothing: these are definitions.
 --
---   left m             the bits of the fields that the maker m still has
+--   bits_left f        the bits of fields that f still has
+--   left m             those that the maker m still has
 --   Started f m        the maker m has put the start of the line of the frame f, and has all of its fields
 --   rest m             what the maker m still puts, if no stuff bit is due
 --   rest_due m         the same if one may be due
@@ -16,11 +17,15 @@ use Rattle.frame.specs.Contents.{frame_data}
 use Rattle.frame.specs.Fields.{fields}
 use Rattle.frame.specs.Line.{start}
 use Rattle.frame.specs.Stuffing.{run, stuff, stuff_due}
+use Rattle.frame.specs.declared.fields.Fields.{Fields}
 use Rattle.frame.specs.declared.frame.Frame.{Frame}
 use Rattle.frame.specs.declared.maker.Maker.{Maker}
 
+abbrev pub bits_left : Fields → List Bool
+bits_left f = bits_of f.width f.number
+
 abbrev pub left : Maker → List Bool
-left m = bits_of m.fields.width m.fields.number
+left m = bits_left m.fields
 
 pub record Started (f : Frame) (m : Maker) : Type 0 where
   pub fields : left m ≡ fields f.id (frame_data f)

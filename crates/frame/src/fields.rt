@@ -1,10 +1,10 @@
 // The fields of a frame as one number: each is joined to those before it as the lowest bits.
 ghost use Rattle.std.specs.Prelude.{◌≡◌};
 ghost use Rattle.std.specs.Iterator.{YieldsFirst, item_count};
-ghost use Rattle.bits.specs.Bits.{bits_of};
 ghost use Rattle.bits.specs.Crc.{covered, crc};
 ghost use Rattle.frame.specs.Contents.{frame_data};
 ghost use Rattle.frame.specs.Fields.{fields};
+ghost use Rattle.frame.specs.Making.{bits_left};
 
 use crate::frame::Frame;
 use crate::widths::{BYTE, BYTES, CHECKS, FIXED, LENGTHS};
@@ -19,7 +19,7 @@ pub(crate) struct Fields {
 }
 
 impl From<&Frame> for Fields {
-    ghost from_gives = { λ frame f. bits_of f.width f.number ≡ fields frame.now.id (frame_data frame.now) };
+    ghost from_gives = { λ frame f. bits_left f ≡ fields frame.now.id (frame_data frame.now) };
 
     fn from(frame: &Frame) -> Self {
         let data = frame.data();
@@ -45,9 +45,9 @@ fn check_of(frame: &Frame) -> u16
 impl Iterator for Fields {
     type Item = bool;
 
-    ghost next_gives = { YieldsFirst (λ f. bits_of f.width f.number) };
+    ghost next_gives = { YieldsFirst bits_left };
 
-    ghost remaining = { item_count (λ f. bits_of f.width f.number) };
+    ghost remaining = { item_count bits_left };
 
     fn next(&mut self) -> Option<bool> {
         self.width = self.width.checked_sub(1)?;

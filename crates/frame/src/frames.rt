@@ -34,7 +34,8 @@ impl Frame {
     }
 }
 
-// What `==` decides of frames: whether their identifiers and their bytes are the same.
+// What `==` decides of frames: whether their identifiers and their bytes are the same. Lines have such a function of their own, since
+// what it says of them is another thing.
 pub fn is_same_frame(a: &Frame, b: &Frame) -> bool
     ensures computed { result ≡ frame_eq a.now b.now }
     ensures decided { IsTrue result ↔ (contents a.now ≡ contents b.now) }

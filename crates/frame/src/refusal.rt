@@ -7,22 +7,18 @@ use crate::done::Done;
 #[derive(Clone, Copy, Debug, PartialEq, Eq)]
 pub enum Refusal {
     // A letter that isn't good.
-    BadLetter,
+    BadLetter = 1,
     // A bit that is neither 0 nor 1.
-    BadBit,
+    BadBit = 2,
     // A room that isn't as long as it has to be.
-    BadRoom,
+    BadRoom = 3,
 }
 
 impl Refusal {
     pub fn number(self) -> u64
         ensures { result ≡ refusal_number self }
     {
-        match self {
-            Refusal::BadLetter => 1,
-            Refusal::BadBit => 2,
-            Refusal::BadRoom => 3,
-        }
+        self as u64
     }
 }
 

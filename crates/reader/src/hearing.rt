@@ -75,7 +75,7 @@ impl Reader {
         }))
     }
 
-    // A bit of the line's end.
+    // A bit of the line's end. A struct with ghost fields can't be built by `..self`.
     fn hear_end_bit(self, bit: bool) -> Option<Heard>
         requires { (due self.run.count ≡ false) × (whole self.fields ≡ true) }
         ensures { Goes self bit result }

@@ -16,7 +16,7 @@ pub fn bytes_of<'a>(row: &'a [u16], i: u64) -> &'a [u16]
     part_of(row, i).unwrap_or(&[])
 }
 
-// The same, if there is such a letter.
+// The same, if there is such a letter. The entry's two arguments go on to where each is used.
 fn part_of(row: &[u16], i: u64) -> Option<&[u16]>
     ensures { MatchOption result (bytes_at row.now i ≡ []) (λ part. part.now ≡ bytes_at row.now i) }
 {

@@ -125,18 +125,11 @@ fn is_left(heap: Global, line: &[bool], room: &[u8]) -> Result<bool, AllocError>
     Ok(room_after(heap, line, room.len())?.as_slice() == room)
 }
 
-fn is_made(done: Done, line: &[bool]) -> bool {
-    done == Done::Made(line.len() as u64)
-}
-
-fn is_short(done: Done, line: &[bool]) -> bool {
-    done == Done::Short(line.len() as u64)
-}
-
 // Whether `make_line` writes and says that this is the line of the frame with this name and these bytes.
 fn makes(heap: Global, line: &[bool], name: u64, bytes: &[u8]) -> Result<bool, AllocError> {
     let mut room = [UNTOUCHED; LONGEST_LINE];
-    Ok(is_made(make_line(name, bytes, &mut room), line) && is_left(heap, line, &room)?)
+    let made = Done::Made(line.len() as u64);
+    Ok(make_line(name, bytes, &mut room) == made && is_left(heap, line, &room)?)
 }
 
 // Whether its `Line` has these bits.
@@ -144,6 +137,7 @@ fn has_bits(line: &[bool], name: u64, bytes: &[u8]) -> bool {
     Frame::new(name, bytes).is_some_and(|frame| Line::from(&frame).bits() == line)
 }
 
+// Both of these. A letter is a name and bytes here, as the entries take it.
 fn check_both(
     rt: &(impl Abort + AllocGlobal),
     line: &[bool],
@@ -200,12 +194,13 @@ fn rooms_of_every_length(rt: HostRuntime) -> Result<(), Fail> {
         for len in 0..=line.len().saturating_add(1) {
             let mut room = vec![in heap; UNTOUCHED; len]?;
             let done = make_line(name, bytes, &mut room);
+            let bits = line.len() as u64;
             let told = if len < line.len() {
-                is_short(done, &line)
+                Done::Short(bits)
             } else {
-                is_made(done, &line)
+                Done::Made(bits)
             };
-            assert!(rt; told, "the answer at a room of {len}");
+            assert_eq!(rt; done, told, "the answer at a room of {len}");
             assert!(rt; is_left(heap, &line, &room)?, "the room of {len}");
         }
     }

@@ -36,11 +36,10 @@ fn push_drawn(bits: &mut Vec<bool>, lots: &mut Lots, count: u64) -> Result<(), A
     Ok(())
 }
 
-// What `read_line` answers where this is found. Neither type is this crate's, so that no `From` can be.
-fn answer_to(found: &Option<Found>) -> Done {
-    match found {
-        Some(found) => Done::Read(found.name, found.bytes.len() as u64, found.end as u64),
-        None => Done::Nothing,
+// What `read_line` answers where this is found.
+impl From<&Found> for Done {
+    fn from(found: &Found) -> Self {
+        Done::Read(found.name, found.bytes.len() as u64, found.end as u64)
     }
 }
 
@@ -55,7 +54,7 @@ fn room_after(found: &Option<Found>) -> [u8; ROOM] {
     room
 }
 
-// What was read, in the second reader's terms.
+// What was read, in the second reader's terms. It asks for memory, so it can be no `From`.
 fn found_in(heap: Global, reading: Option<Reading>) -> Result<Option<Found>, AllocError> {
     let Some(Reading { frame, end }) = reading else {
         return Ok(None);
@@ -71,7 +70,11 @@ fn check_alike(rt: &(impl Abort + AllocGlobal), bits: &[bool]) -> Result<(), Fai
     let found = second_reader::read(heap, bits)?;
     let mut room = [UNTOUCHED; ROOM];
     let done = read_line(&numbers(heap, bits, 0)?, &mut room);
-    assert_eq!(rt; done, answer_to(&found), "the answer to {bits:?}");
+    assert_eq!(rt;
+        done,
+        found.as_ref().map_or(Done::Nothing, Done::from),
+        "the answer to {bits:?}"
+    );
     assert!(rt; room == room_after(&found), "the room of {bits:?}");
     for even in EVEN {
         let read = found_in(heap, Reading::of(&numbers(heap, bits, even)?))?;

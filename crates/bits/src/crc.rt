@@ -10,6 +10,15 @@ const POLYNOMIAL: u16 = 17817;
 // How many bits a check has.
 pub const CRC_BITS: u32 = 15;
 
+// How many bits of a frame's identifier a check covers, and how many say how many bytes there are.
+pub const ID_BITS: u32 = 11;
+
+pub const LENGTH_BITS: u32 = 4;
+
+const IDS: u16 = 1 << ID_BITS;
+
+const LENGTHS: u16 = 1 << LENGTH_BITS;
+
 // A check of 15 bits, of what was pushed so far.
 #[derive(Clone, Copy)]
 pub struct Crc {
@@ -76,15 +85,14 @@ impl Crc {
 }
 
 // The check of a frame: of its identifier in 11 bits, how many bytes it has in 4, and the bytes.
-// These 15 bits go in as two bytes, since a low bit in front of a row changes no check. The widths stand here as numbers, since they cut
-// and join these bytes.
+// These 15 bits go in as two bytes, since a low bit in front of a row changes no check.
 pub fn frame_crc(id: u16, data: &[u8]) -> Crc
     ensures { result.value ≡ crc (covered id «data».now) }
 {
-    let id = id % 2048;
-    let len = (data.len() % 16) as u16;
-    let first = (id / 16) as u8;
-    let second = (id % 16 * 16 + len) as u8;
+    let id = id % IDS;
+    let len = (data.len() % LENGTHS as usize) as u16;
+    let first = (id / LENGTHS) as u8;
+    let second = (id % LENGTHS * LENGTHS + len) as u8;
     Crc::new()
         .push_byte(first)
         .push_byte(second)

@@ -1,10 +1,10 @@
 // How many bits each field of a frame takes, how many values it has, and some fields together.
 
-use bits::CRC_BITS;
+use bits::{CRC_BITS, ID_BITS, LENGTH_BITS};
 
-pub const ID: u32 = 11;
+pub const ID: u32 = ID_BITS;
 
-pub const LENGTH: u32 = 4;
+pub const LENGTH: u32 = LENGTH_BITS;
 
 pub const BYTE: u32 = 8;
 

@@ -47,8 +47,8 @@ impl From<&Found> for Done {
 fn room_after(found: &Option<Found>) -> [u8; ROOM] {
     let mut room = [UNTOUCHED; ROOM];
     if let Some(found) = found {
-        for (place, byte) in room.iter_mut().zip(found.bytes.iter()) {
-            *place = *byte;
+        if let Some(front) = room.get_mut(..found.bytes.len()) {
+            front.copy_from_slice(&found.bytes);
         }
     }
     room

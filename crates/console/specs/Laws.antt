@@ -10,6 +10,8 @@
 --   TypedIsRead        a letter that is typed, with any digits, is read as the letter of the numbers that they write
 --   ReadWasTyped       what is read as a letter was typed so
 --   LineWasTyped       only the text `line` is read as that command
+--   EachHolds          whatever the code holds of the numbers behind a name stands for some numbers, so that what is said of these
+--                      is said of every letter
 --   Good n bs          a letter of which a good frame can be made, and none of its bytes is above 255
 --   GoodOrRefused      a letter is good if and only if it is not refused
 --   InOrder n bs       what is refused of a letter, in the order of the questions
@@ -26,11 +28,13 @@ use Rattle.std.specs.Prelude.{◌≡◌, ℕ, ◌<◌, ◌≤◌, true, List, []
 use Rattle.std.specs.List.{AllByRecursion}
 use Rattle.frame.specs.Good.{good}
 use Rattle.console.specs.Answers.{answer, line_reply, refused, reply_text}
+use Rattle.console.specs.Commands.{Holds}
 use Rattle.console.specs.Numeral.{numeral, value}
 use Rattle.console.specs.Reading.{Reading, reading, blank, letter, current_line, unreadable}
 use Rattle.console.specs.Refusals.{bad_letter}
 use Rattle.console.specs.Sessions.{State, no_letters, unless_refused, after}
 use Rattle.console.specs.Words.{words, spaced}
+use Rattle.console.specs.declared.numbers.Numbers.{Numbers}
 use Rattle.console.specs.declared.refusal.Refusal.{Refusal}
 use Rattle.console.specs.declared.refusal.Refusal.TheVariants.{Name, Count, Byte, Unreadable}
 
@@ -62,6 +66,9 @@ ReadWasTyped =
 
 abbrev pub LineWasTyped : Type 0
 LineWasTyped = (t : List ℕ) → reading t ≡ current_line → t ≡ codes "line"
+
+abbrev pub EachHolds : Type 0
+EachHolds = (x : Numbers) → (ns : List ℕ) × Holds x ns
 
 pub record Good (n : ℕ) (bs : List ℕ) : Type 0 where
   pub frame : good n bs ≡ true

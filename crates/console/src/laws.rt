@@ -1,5 +1,5 @@
 // The laws of texts, refusals and sessions: each function's contract is one of them, and the function does nothing.
-ghost use Rattle.console.specs.Laws.{SpacedWords, WordsSpaced, BlankIsEmpty, TypedIsRead, ReadWasTyped, LineWasTyped, GoodOrRefused, RefusedInOrder, RefusedSame, LineOfLast, Examples};
+ghost use Rattle.console.specs.Laws.{SpacedWords, WordsSpaced, BlankIsEmpty, TypedIsRead, ReadWasTyped, LineWasTyped, EachHolds, GoodOrRefused, RefusedInOrder, RefusedSame, LineOfLast, Examples};
 
 pub fn spaced_words()
     ensures { SpacedWords }
@@ -23,6 +23,10 @@ pub fn read_was_typed()
 
 pub fn line_was_typed()
     ensures { LineWasTyped }
+{}
+
+pub fn each_holds()
+    ensures { EachHolds }
 {}
 
 pub fn good_or_refused()

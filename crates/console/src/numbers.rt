@@ -1,8 +1,7 @@
 // The numbers behind a letter's name: how many there are, and the first eight of them. A letter has no use for more, since one
 // with more than eight bytes isn't good whatever they are. They lie in fixed memory, since a line is answered even where there
 // is no memory left.
-ghost use Rattle.std.specs.Prelude.{◌≡◌, ℕ, ◌+◌, ◌^◌, ◌<◌, List, [], ◌∷◌, ◌++◌};
-ghost use Rattle.console.specs.Commands.{Holds};
+ghost use Rattle.std.specs.Prelude.{◌≡◌, ℕ, ◌+◌, ◌^◌, ◌<◌, min, List, [], ◌∷◌, ◌++◌, length};
 
 use frame::MOST_BYTES;
 use row::Row;
@@ -12,9 +11,13 @@ use row::Row;
 pub struct Numbers {
     pub(crate) count: usize,
     pub(crate) first: Row<u64, MOST_BYTES>,
+    // So each value stands for some numbers.
+    ghost filled: { length first.items ≡ min count 8 },
 }
 
 impl Numbers {
+    ghost use Rattle.console.specs.Commands.{Holds};
+
     // No number yet.
     pub(crate) fn new() -> Self
         ensures { Holds result [] }

@@ -17,7 +17,7 @@ pub enum Refusal {
 }
 
 impl Refusal {
-    // The number by which users know it.
+    // The number by which users know it. Where an entry refuses the same, it is the entry's.
     pub fn number(self) -> u64
         ensures { result ≡ refusal_number self }
     {

@@ -1,5 +1,6 @@
 // What the entries answer: making a line, and reading one, which stands in a crate above this one. It is no `Result`, and a refusal is a
-// number here, since the entries answer callers in C, who know these answers by their names and numbers. Inside, refusals are `Refusal`.
+// number here, since users know these answers by their names and numbers, and they are to be handed to C so. Inside, refusals are
+// `Refusal`.
 
 #[derive(Clone, Copy, Debug, PartialEq, Eq)]
 pub enum Done {

@@ -1,5 +1,5 @@
 // Frames in a row of numbers, ten for each: its name, how many bytes it has, and eight places for these. That is how whoever calls the
-// entry has them, in C too, so that they are no structs.
+// entry has them, and C is to call it so, so that they are no structs.
 ghost use Rattle.std.specs.Prelude.{◌≡◌, ◌+◌, ◌*◌, ◌<◌, ◌≤◌, [], length, take, drop, MatchOption};
 ghost use Rattle.reader.specs.Rows.{bytes_at};
 

@@ -10,16 +10,16 @@ pub fn bit_at(x: u128, place: u32) -> bool
     place < u128::BITS && x / (1 << place) % 2 == 1
 }
 
-// Fills `out` with as many of the lowest bits of `x` as it has places, the highest first.
+// Fills `out` with as many of the lowest bits of `x` as it has places, the highest first. It goes by places from the last one on: to fill the
+// slice from its front and turn it round takes half as long again, and through `iter_mut().rev()` the check finds no proof by itself.
 pub fn write_bits(x: u64, out: &mut [bool])
     ensures { out.new ≡ bits_of (length out.old) x }
 {
     let mut rest = x;
-    for bit in out.iter_mut() {
-        *bit = rest % 2 == 1;
+    for i in (0..out.len()).rev() {
+        out[i] = rest % 2 == 1;
         rest /= 2;
     }
-    out.reverse();
 }
 
 // The number that `bits` write, the highest first, if it is below 2 to the power of 64.

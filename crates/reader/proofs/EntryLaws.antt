@@ -1,5 +1,6 @@
 -- What holds of the numbers that the entry reads: where none of them is above 1 they are bits (`bits_small`), and a line stands at the beginning
--- of numbers if it does so of their bits (`reads_standing`, `standing_reads`). Rests on the laws of lists and of reading. Assumes nothing else.
+-- of numbers if it does so of their bits (`reads_standing`, `standing_reads`); and what the entry says of what was
+-- found (`handed_over`). Rests on the laws of lists and of reading. Assumes nothing else.
 use Rattle.std.proofs.Common.{◌≡◌, ℕ, zero, suc, ◌<◌, ◌≤◌, Bool, true, false, cond, ◌&&◌, leb, ◌⊎◌, List, [], ◌∷◌, ◌++◌, map, length, get_or, drop, is_some, Some, None, Option, sym, refl, ap, ◌∙◌, subst, ap₂, inl, inr, arith}
 use Rattle.std.proofs.lemmas.List.{map-append}
 use Rattle.std.proofs.lemmas.Bool.{and_from, and_parts, cond-false, cond-true, eq-eqb, le-leb}
@@ -56,7 +57,7 @@ module _ (id : ℕ) (xs : List ℕ) (bs : List ℕ) where
   }
 
 -- what isn't refused
-not-refused : (bs room : List ℕ) → is_some (first_above 1 bs) ≡ false → length room ≡ 8 → read_refusal bs room ≡ 0
+pub not-refused : (bs room : List ℕ) → is_some (first_above 1 bs) ≡ false → length room ≡ 8 → read_refusal bs room ≡ 0
 not-refused bs room small eight = cond-false (is_some (first_above 1 bs)) 2 _ small ∙ ap (λ t. cond t 0 3) (eq-eqb (length room) 8 eight)
 
 all_bits : (bs room : List ℕ) → read_refusal bs room ≡ 0 → first_above 1 bs ≡ None
@@ -66,24 +67,32 @@ all_bits bs room accepted = go (first_above 1 bs) _ accepted
     go None n e = refl
     go (Some i) n e = absurd (omega arith)
 
--- what was found, as it is answered and written
+none_there : (o : Option ℕ) → is_some o ≡ false → o ≡ None
+none_there None e = refl
+none_there (Some i) e = cc
+
+-- what was found, as it is answered and written, whatever room there is
 pub handed_over :
+    (bs r : List ℕ) (f : Option (ℕ × List ℕ × ℕ)) (o : ℕ × List ℕ) (s : List ℕ) → f ≡ found (map lowest bs) → is_some (first_above 1 bs) ≡ false → o ≡ read_answer f →
+    s ≡ read_room f r → ReadFrame bs r o s ⊎ ReadNothing bs r o s
+handed_over bs r None o s is small answer room =
+    inr record { none = λ id xs reads. nothing_standing (map lowest bs) (sym is) id xs (standing_reads id xs bs reads); answer = answer; same = room }
+handed_over bs r (Some f) o s is small answer room =
+    let (stands, ends) = standing_found f.0 f.1 (map lowest bs) f.2 (sym is) in
+    inl record {
+      id = f.0;
+      bytes = f.1;
+      stands = reads_standing f.0 f.1 bs (bits_small bs (none_above 1 bs (none_there (first_above 1 bs) small))) stands;
+      answer = answer ∙ ap (λ e. read f.0 (length f.1) e) ends;
+      written = room;
+    }
+
+-- the same where nothing is refused
+pub accepted_says :
     (bs r : List ℕ) (f : Option (ℕ × List ℕ × ℕ)) (o : ℕ × List ℕ) (s : List ℕ) → read_refusal bs r ≡ 0 → f ≡ found (map lowest bs) → o ≡ read_answer f →
     s ≡ read_room f r → ReadSays bs r o s
-handed_over bs r f o s accepted is answer room = subst (λ k. ReadBy k bs r o s) (sym accepted) (either f is answer room)
-  where
-    either : (f : Option (ℕ × List ℕ × ℕ)) → f ≡ found (map lowest bs) → o ≡ read_answer f → s ≡ read_room f r → ReadFrame bs r o s ⊎ ReadNothing bs r o s
-    either None is answer room =
-        inr record { none = λ id xs reads. nothing_standing (map lowest bs) (sym is) id xs (standing_reads id xs bs reads); answer = answer; same = room }
-    either (Some f) is answer room =
-        let (stands, ends) = standing_found f.0 f.1 (map lowest bs) f.2 (sym is) in
-        inl record {
-          id = f.0;
-          bytes = f.1;
-          stands = reads_standing f.0 f.1 bs (bits_small bs (none_above 1 bs (all_bits bs r accepted))) stands;
-          answer = answer ∙ ap (λ e. read f.0 (length f.1) e) ends;
-          written = room;
-        }
+accepted_says bs r f o s accepted is answer room =
+    subst (λ k. ReadBy k bs r o s) (sym accepted) (handed_over bs r f o s is (ap is_some (all_bits bs r accepted)) answer room)
 
 -- ---- laws
 

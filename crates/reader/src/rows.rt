@@ -13,7 +13,7 @@ const NUMBERS: usize = 2 + MOST_BYTES;
 pub fn bytes_of<'a>(row: &'a [u16], i: u64) -> &'a [u16]
     ensures { result.now ≡ bytes_at row.now i }
 {
-    part_of(row, i).unwrap_or(&[])
+    part_of(row, i).unwrap_or(&row[..0])
 }
 
 // The same, if there is such a letter. The entry's two arguments go on to where each is used.

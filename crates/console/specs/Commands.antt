@@ -13,6 +13,7 @@ use Rattle.console.specs.declared.command.Command.{Command}
 use Rattle.console.specs.declared.command.Command.TheVariants.{Blank, Letter, Line}
 use Rattle.console.specs.declared.letter.Letter as Declared
 use Rattle.console.specs.declared.numbers.Numbers.{Numbers}
+use Rattle.row.specs.Items.{items}
 
 abbrev pub capped_reading : Reading → Reading
 capped_reading blank = blank
@@ -22,7 +23,7 @@ capped_reading unreadable = unreadable
 
 pub record Holds (x : Numbers) (ns : List ℕ) : Type 0 where
   pub count : x.count ≡ length ns
-  pub first : x.first.items ≡ take 8 ns
+  pub first : items x.first ≡ take 8 ns
 
 abbrev pub SaysLetter : Option Declared.Letter → Reading → Type 0
 SaysLetter None r = r ≡ unreadable

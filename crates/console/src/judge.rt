@@ -3,6 +3,7 @@
 ghost use Rattle.std.specs.Prelude.{◌≡◌, ℕ, ◌≤◌, List, length, MatchResult};
 ghost use Rattle.console.specs.Commands.{Holds};
 ghost use Rattle.console.specs.Refusals.{Judged, bad_byte};
+ghost use Rattle.row.specs.Items.{items};
 
 use crate::letter::Letter;
 use crate::refusal::Refusal;
@@ -30,7 +31,7 @@ impl TryFrom<Letter> for Frame {
 // The bytes that the numbers are, if all of them are bytes.
 fn bytes_of(numbers: &[u64]) -> Result<Row<u8, MOST_BYTES>, Refusal>
     requires { length numbers.now ≤ 8 }
-    ensures { MatchResult result (λ row. (bad_byte 0 numbers.now ≡ None) × (row.items ≡ numbers.now)) (λ x. bad_byte 0 numbers.now ≡ Some x) }
+    ensures { MatchResult result (λ row. (bad_byte 0 numbers.now ≡ None) × (items row ≡ numbers.now)) (λ x. bad_byte 0 numbers.now ≡ Some x) }
 {
     let mut bytes = Row::new();
     for (i, number) in numbers.iter().enumerate() {

@@ -2,6 +2,7 @@
 // with more than eight bytes isn't good whatever they are. They lie in fixed memory, since a line is answered even where there
 // is no memory left.
 ghost use Rattle.std.specs.Prelude.{◌≡◌, ℕ, ◌+◌, ◌^◌, ◌<◌, min, List, [], ◌∷◌, ◌++◌, length};
+ghost use Rattle.row.specs.Items.{items};
 
 use frame::MOST_BYTES;
 use row::Row;
@@ -12,7 +13,7 @@ pub struct Numbers {
     pub(crate) count: usize,
     pub(crate) first: Row<u64, MOST_BYTES>,
     // So each value stands for some numbers.
-    ghost filled: { length first.items ≡ min count 8 },
+    ghost filled: { length (items first) ≡ min count 8 },
 }
 
 impl Numbers {

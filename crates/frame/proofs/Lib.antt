@@ -1,3 +1,4 @@
+pub mod AlikeLaws
 pub mod GoodLaws
 pub mod StuffLaws
 pub mod LineLaws

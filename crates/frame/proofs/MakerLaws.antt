@@ -13,19 +13,20 @@ use Rattle.frame.specs.declared.maker.Maker.{Maker}
 use Rattle.frame.proofs.FieldLaws.{few_bytes}
 use Rattle.frame.proofs.LineLaws.{length-line, length_of_line}
 use Rattle.frame.proofs.StuffLaws.{not-due, run_most, run_other}
+use Rattle.row.specs.Items.{items}
 
 pub puts_none : (m : Maker) (new : List Bool) → new ≡ [] → Puts m new m
-puts_none m new e = sym (ap (λ r. m.bits.items ++ r) e ∙ append-nil m.bits.items)
+puts_none m new e = sym (ap (λ r. items m.bits ++ r) e ∙ append-nil (items m.bits))
 
 -- what is put behind the bit b is put behind what was there before it
 puts_more :
-    (m n : Maker) (b : Bool) (new all : List Bool) (after : Maker) → n.bits.items ≡ m.bits.items ++ b ∷ [] → all ≡ b ∷ new → Puts n new after → Puts m all after
+    (m n : Maker) (b : Bool) (new all : List Bool) (after : Maker) → items n.bits ≡ items m.bits ++ b ∷ [] → all ≡ b ∷ new → Puts n new after → Puts m all after
 puts_more m n b new all after one these puts =
-    puts ∙ ap (λ r. r ++ new) one ∙ append_assoc m.bits.items (b ∷ []) new ∙ ap (λ r. m.bits.items ++ r) (sym these)
+    puts ∙ ap (λ r. r ++ new) one ∙ append_assoc (items m.bits) (b ∷ []) new ∙ ap (λ r. items m.bits ++ r) (sym these)
 
 -- a bit that is put takes one place
-one_place : (m n : Maker) (b : Bool) → n.bits.items ≡ m.bits.items ++ b ∷ [] → length n.bits.items ≡ length m.bits.items + 1
-one_place m n b one = ap length one ∙ length-append m.bits.items (b ∷ [])
+one_place : (m n : Maker) (b : Bool) → items n.bits ≡ items m.bits ++ b ∷ [] → length (items n.bits) ≡ length (items m.bits) + 1
+one_place m n b one = ap length one ∙ length-append (items m.bits) (b ∷ [])
 
 -- ---- the maker of rows
 
@@ -40,11 +41,11 @@ module _ (m taken n : Maker) (b : Bool) (first : left m ≡ b ∷ left taken) (r
       let same : left taken ≡ left n = sym (ap (λ f. bits_of f.width f.number) put.fields) in
       ap (stuff m.run.bit m.run.count) (first ∙ ap (λ r. b ∷ r) same) ∙ ap₂ (λ c k. b ∷ stuff_due c k (left n)) (sym put.bit) (sym counted)
 
-  one_more : n.bits.items ≡ m.bits.items ++ b ∷ []
-  one_more = put.bits ∙ ap (λ r. r.items ++ b ∷ []) bits_same
+  one_more : items n.bits ≡ items m.bits ++ b ∷ []
+  one_more = put.bits ∙ ap (λ r. items r ++ b ∷ []) bits_same
 
   -- what is left fits the room, and goes on fitting once a bit is put
-  pub row_fits : m.run.count ≤ 4 → length m.bits.items + length (rest m) ≤ 125 → Fits 5 n (rest_due n)
+  pub row_fits : m.run.count ≤ 4 → length (items m.bits) + length (rest m) ≤ 125 → Fits 5 n (rest_due n)
   row_fits few fits =
       (omega (arith, counted, run_most m.run.bit m.run.count b), omega (arith, ap length rest_first, one_place m n b one_more))
 
@@ -55,7 +56,7 @@ pub row_none : (m : Maker) → left m ≡ [] → rest m ≡ []
 unfolding stuff
 row_none m e = ap (stuff m.run.bit m.run.count) e
 
-pub row_place : (m : Maker) (b : Bool) (l : List Bool) → left m ≡ b ∷ l → length m.bits.items + length (rest m) ≤ 125 → length m.bits.items < 125
+pub row_place : (m : Maker) (b : Bool) (l : List Bool) → left m ≡ b ∷ l → length (items m.bits) + length (rest m) ≤ 125 → length (items m.bits) < 125
 unfolding stuff
 row_place m b l first fits = omega (arith, ap (λ r. length (stuff m.run.bit m.run.count r)) first)
 
@@ -68,7 +69,7 @@ module _ (m n : Maker) (five : due m.run.count ≡ true) (put : HasPut (not m.ru
       let same : left m ≡ left n = sym (ap (λ f. bits_of f.width f.number) put.fields) in
       rw five (ap₂ (λ c k. not m.run.bit ∷ stuff c k (left m)) (sym put.bit) count ∙ ap (λ l. not m.run.bit ∷ stuff n.run.bit n.run.count l) same)
 
-  pub five_fits : length m.bits.items + length (rest_due m) ≤ 125 → Fits 4 n (rest n)
+  pub five_fits : length (items m.bits) + length (rest_due m) ≤ 125 → Fits 4 n (rest n)
   five_fits fits =
       (omega (arith, put.count, run_other m.run.bit m.run.count), omega (arith, ap length rest_five, one_place m n (not m.run.bit) put.bits))
 
@@ -84,7 +85,7 @@ pub other_fits : (m : Maker) → due m.run.count ≡ false → Fits 5 m (rest_du
 other_fits m other (few, fits) = (omega (arith, not-due m.run.count other), omega (arith, ap length (rest_other m other)))
 
 pub other_puts : (m after : Maker) → due m.run.count ≡ false → Puts m (rest m) after → Puts m (rest_due m) after
-other_puts m after other puts = puts ∙ ap (λ r. m.bits.items ++ r) (sym (rest_other m other))
+other_puts m after other puts = puts ∙ ap (λ r. items m.bits ++ r) (sym (rest_other m other))
 
 -- ---- the whole line
 
@@ -100,9 +101,9 @@ module _ (f : Frame) (m : Maker) (started : Started f m) where
   pub started_fits : Fits 4 m (rest m)
   started_fits = (omega (arith, started.count), omega (arith, ap length started.bits, length_started))
 
-  pub line_fits : (after : Maker) → Puts m (rest m) after → length after.bits.items + 7 ≤ 125
-  line_fits after puts = omega (arith, ap length puts, length-append m.bits.items (rest m), ap length started.bits, length_started)
+  pub line_fits : (after : Maker) → Puts m (rest m) after → length (items after.bits) + 7 ≤ 125
+  line_fits after puts = omega (arith, ap length puts, length-append (items m.bits) (rest m), ap length started.bits, length_started)
 
-  pub line_made : (after : Maker) → Puts m (rest m) after → after.bits.items ++ end ≡ line f.id (frame_data f)
+  pub line_made : (after : Maker) → Puts m (rest m) after → items after.bits ++ end ≡ line f.id (frame_data f)
   unfolding line
   line_made after puts = ap (λ r. r ++ end) (puts ∙ ap₂ (λ l r. l ++ r) started.bits rest_started)

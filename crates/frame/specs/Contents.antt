@@ -12,18 +12,19 @@ use Rattle.std.specs.Cmp.Lexicographic.{pointwise}
 use Rattle.std.specs.Ordering.{eq_of_both, on}
 use Rattle.frame.specs.declared.frame.Frame.{Frame}
 use Rattle.frame.specs.declared.line.Line.{Line}
+use Rattle.row.specs.Items.{items}
 
 abbrev pub frame_data : Frame → List ℕ
-frame_data f = f.bytes.items
+frame_data f = items f.bytes
 
 abbrev pub contents : Frame → ℕ × List ℕ
 contents f = (f.id, frame_data f)
 
 abbrev pub line_bits : Line → List Bool
-line_bits l = l.bits.items
+line_bits l = items l.bits
 
 abbrev pub frame_eq : Frame → Frame → Bool
-frame_eq = eq_of_both (on (λ f. f.id) nat_eq) (on frame_data (pointwise nat_eq))
+frame_eq = eq_of_both (on frame_data (pointwise nat_eq)) (on (λ f. f.id) nat_eq)
 
 abbrev pub line_eq : Line → Line → Bool
 line_eq = on line_bits (pointwise beq)

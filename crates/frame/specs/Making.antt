@@ -20,6 +20,7 @@ use Rattle.frame.specs.Stuffing.{run, stuff, stuff_due}
 use Rattle.frame.specs.declared.fields.Fields.{Fields}
 use Rattle.frame.specs.declared.frame.Frame.{Frame}
 use Rattle.frame.specs.declared.maker.Maker.{Maker}
+use Rattle.row.specs.Items.{items}
 
 abbrev pub bits_left : Fields → List Bool
 bits_left f = bits_of f.width f.number
@@ -31,7 +32,7 @@ pub record Started (f : Frame) (m : Maker) : Type 0 where
   pub fields : left m ≡ fields f.id (frame_data f)
   pub bit : m.run.bit ≡ start
   pub count : m.run.count ≡ 1
-  pub bits : m.bits.items ≡ start ∷ []
+  pub bits : items m.bits ≡ start ∷ []
 
 abbrev pub rest : Maker → List Bool
 rest m = stuff m.run.bit m.run.count (left m)
@@ -40,16 +41,16 @@ abbrev pub rest_due : Maker → List Bool
 rest_due m = stuff_due m.run.bit m.run.count (left m)
 
 abbrev pub Ready : Maker → Type 0
-Ready m = (m.run.count ≤ 5) × (length m.bits.items < 125)
+Ready m = (m.run.count ≤ 5) × (length (items m.bits) < 125)
 
 pub record HasPut (b : Bool) (m after : Maker) : Type 0 where
-  pub bits : after.bits.items ≡ m.bits.items ++ b ∷ []
+  pub bits : items after.bits ≡ items m.bits ++ b ∷ []
   pub bit : after.run.bit ≡ b
   pub count : after.run.count ≡ run m.run.bit m.run.count b
   pub fields : after.fields ≡ m.fields
 
 abbrev pub Fits : ℕ → Maker → List Bool → Type 0
-Fits k m new = (m.run.count ≤ k) × (length m.bits.items + length new ≤ 125)
+Fits k m new = (m.run.count ≤ k) × (length (items m.bits) + length new ≤ 125)
 
 abbrev pub Puts : Maker → List Bool → Maker → Type 0
-Puts m new after = after.bits.items ≡ m.bits.items ++ new
+Puts m new after = items after.bits ≡ items m.bits ++ new

@@ -2,6 +2,7 @@
 // it is declared: frames.rt has what it does.
 ghost use Rattle.std.specs.Prelude.{◌≡◌, ◌<◌, ◌≤◌, true, length};
 ghost use Rattle.frame.specs.Good.{all_bytes};
+ghost use Rattle.row.specs.Items.{items};
 
 use row::Row;
 
@@ -11,11 +12,10 @@ pub const LARGEST_ID: u64 = 2047;
 // The most bytes that a frame carries.
 pub const MOST_BYTES: usize = 8;
 
-// Frames are alike if their identifiers and their bytes are.
-#[derive(Clone, Copy, Debug, PartialEq, Eq)]
+#[derive(Clone, Copy)]
 pub struct Frame {
     pub(crate) id: u16,
     pub(crate) bytes: Row<u8, MOST_BYTES>,
-    ghost good: { (id < 2048) × (length bytes.items ≤ 8) },
-    ghost narrow: { all_bytes bytes.items ≡ true },
+    ghost good: { (id < 2048) × (length (items bytes) ≤ 8) },
+    ghost narrow: { all_bytes (items bytes) ≡ true },
 }

@@ -5,6 +5,7 @@ ghost use Rattle.std.specs.Prelude.{◌≡◌, ◌+◌, ◌≤◌, ◌++◌, not
 ghost use Rattle.frame.specs.Contents.{frame_data, line_bits};
 ghost use Rattle.frame.specs.Line.{start, end, line};
 ghost use Rattle.frame.specs.Making.{Fits, HasPut, Puts, Ready, Started, rest, rest_due};
+ghost use Rattle.row.specs.Items.{items};
 
 use crate::fields::Fields;
 use crate::frame::Frame;
@@ -97,8 +98,8 @@ impl Maker {
 
     // The line: what was put, and behind it high bits for its end. The maker is lent, which spares a copy.
     fn finish(&mut self) -> Line
-        requires { length self.old.bits.items + length end ≤ 125 }
-        ensures { line_bits result ≡ self.old.bits.items ++ end }
+        requires { length (items self.old.bits) + length end ≤ 125 }
+        ensures { line_bits result ≡ items self.old.bits ++ end }
     {
         self.bits.extend_from_slice(&[true; END]).unwrap();
         Line { bits: self.bits }

@@ -1,7 +1,7 @@
 // A line as text: a digit for each bit.
-ghost use Rattle.std.specs.Prelude.{Some};
+ghost use Rattle.std.specs.Prelude.{◌≡◌, [], ◌∷◌, Some, encode_utf8};
 ghost use Rattle.frame.specs.Contents.{line_bits};
-ghost use Rattle.frame.specs.Digits.{digits};
+ghost use Rattle.frame.specs.Digits.{digit, digits};
 
 use crate::line::Line;
 use std::fmt;
@@ -11,8 +11,22 @@ impl fmt::Display for Line {
 
     fn fmt<W: fmt::Write>(&self, f: &mut fmt::Formatter<W>) -> fmt::Result {
         for high in self.bits() {
-            f.write_char(if *high { '1' } else { '0' })?;
+            f.write_char(digit_of(*high))?;
         }
         Ok(())
     }
+}
+
+// The digits of its bits, and not how they lie.
+impl fmt::Debug for Line {
+    fn fmt<W: fmt::Write>(&self, f: &mut fmt::Formatter<W>) -> fmt::Result {
+        write!(f, "Line({self})")
+    }
+}
+
+// A function of its own: where the digit is chosen at the call, the compiler makes a branch of it, on each bit of a line.
+fn digit_of(high: bool) -> char
+    ensures { encode_utf8 result ≡ digit high ∷ [] }
+{
+    if high { '1' } else { '0' }
 }

@@ -3,6 +3,7 @@
 
 mod full;
 mod row;
+mod rows;
 
 pub use full::Full;
 pub use row::Row;

@@ -1,132 +1,26 @@
-// A row of at most `N` values, which lie in the row itself: nothing is allocated, and a row can be copied.
-ghost use Rattle.std.specs.Prelude.{◌≡◌, ◌+◌, ◌<◌, ◌≤◌, ◌↔◌, [], ◌∷◌, ◌++◌, length, IsOk, OnOk, OnErr, MatchResult};
-ghost use Rattle.std.specs.Cmp.{on_equiv, on_per};
-ghost use Rattle.std.specs.Cmp.Lexicographic.{lists_equiv, lists_per, pointwise};
+// A row of at most `N` values, which lie in the row itself: nothing is allocated, and a row can be copied. The type stands alone here, since
+// the definitions that name it can't be imported where it is declared: rows.rt has what it does. Its fact is a ghost field and no model: a
+// struct that can be copied and holds one with a model is not copied where it is passed by value and used again.
+ghost use Rattle.std.specs.Prelude.{◌≡◌, ◌≤◌, ⊤};
 
-use crate::full::Full;
-use std::fmt;
-use std::marker::Model;
+use std::alloc::AllocError;
 
-#[derive(Clone, Copy)]
 pub struct Row<T, const N: usize> {
     // The row's values in front; what stands behind them means nothing.
-    places: [T; N],
-    len: usize,
+    pub(crate) places: [T; N],
+    pub(crate) len: usize,
+    ghost fits: { len ≤ N },
 }
 
-impl<T, const N: usize> Model for Row<T, N> {
-    ghost use Rattle.std.specs.Prelude.{◌≡◌, ◌≤◌, ◌++◌, length, take, drop};
-    ghost use Rattle.std.proofs.Common.{arith, take-append-drop, length-take-le};
-    ghost use Rattle.row.specs.Row.{Row as Items, row_code};
+// A derive would not say what the copy's ghost field holds.
+impl<T: Copy, const N: usize> Clone for Row<T, N> {
+    ghost is_clone = { λ row copy. copy ≡ row };
 
-    ghost Value = { Items T };
+    ghost is_infallible = { λ _. ⊤ };
 
-    ghost coded = { row_code T.code };
-
-    ghost view = { λ r. record { items = take r.len r.places; spare = drop r.len r.places } };
-
-    ghost invariant = { λ r. (r.len ≤ N) × (length r.places ≡ N) };
-
-    ghost inverse = { λ v. record { places = v.items ++ v.spare; len = length v.items } };
-
-    ghost inverse_ok = { λ r h i. record {
-      places = take-append-drop r.len r.places i;
-      len = length-take-le r.len r.places (omega (arith, h.0, h.1)) i;
-    } };
-}
-
-impl<T: Copy + Default, const N: usize> Row<T, N> {
-    // A row of no value.
-    pub fn new() -> Self
-        ensures { result.items ≡ [] }
-    {
-        Row {
-            places: [T::default(); N],
-            len: 0,
-        }
+    fn clone(&self) -> Result<Self, AllocError> {
+        Ok(*self)
     }
 }
 
-impl<T: Copy, const N: usize> Row<T, N> {
-    // One value more, behind the others; refused where all places are taken.
-    pub fn push(&mut self, value: T) -> Result<(), Full>
-        ensures variant { IsOk result ↔ (length self.old.items < N) }
-        ensures ok { OnOk result (self.new.items ≡ self.old.items ++ value ∷ []) }
-        ensures same { OnErr result (self.new ≡ self.old) }
-    {
-        if self.len == N {
-            return Err(Full);
-        }
-        self.places[self.len] = value;
-        self.len += 1;
-        Ok(())
-    }
-
-    // All of these values more, behind the others in their order; refused where there aren't places for all.
-    pub fn extend_from_slice(&mut self, values: &[T]) -> Result<(), Full>
-        ensures variant { IsOk result ↔ (length self.old.items + length values.now ≤ N) }
-        ensures ok { OnOk result (self.new.items ≡ self.old.items ++ values.now) }
-        ensures same { OnErr result (self.new ≡ self.old) }
-    {
-        if values.len() > N - self.len {
-            return Err(Full);
-        }
-        let end = self.len + values.len();
-        let places = &mut self.places[..];
-        places[self.len..end].copy_from_slice(values);
-        self.len = end;
-        Ok(())
-    }
-}
-
-// The values of a slice, if there are places for all.
-impl<T: Copy + Default, const N: usize> TryFrom<&[T]> for Row<T, N> {
-    type Error = Full;
-
-    ghost try_from_gives = { λ s r. MatchResult r (λ row. (row.items ≡ s.now) × (length s.now ≤ N)) (λ _. N < length s.now) };
-
-    fn try_from(values: &[T]) -> Result<Self, Full> {
-        let mut row = Self::new();
-        row.extend_from_slice(values)?;
-        Ok(row)
-    }
-}
-
-impl<T, const N: usize> Row<T, N> {
-    // How many values the row has.
-    pub fn len(&self) -> usize
-        ensures value { result ≡ length self.now.items }
-        ensures fits { result ≤ N }
-    {
-        self.as_slice().len()
-    }
-
-    // The row's values.
-    pub fn as_slice(&self) -> &[T]
-        ensures value { result.now ≡ self.now.items }
-        ensures fits { length result.now ≤ N }
-    {
-        &self.places[..self.len]
-    }
-}
-
-// Rows are alike if their values are. A derive would compare what stands behind them too, and print it.
-impl<T: PartialEq, const N: usize> PartialEq for Row<T, N> {
-    ghost eq = { λ r s. pointwise T.eq r.items s.items };
-
-    ghost laws = { on_per (λ r. r.items) (lists_per T.laws) };
-
-    fn eq(&self, other: &Self) -> bool {
-        self.as_slice() == other.as_slice()
-    }
-}
-
-impl<T: Eq, const N: usize> Eq for Row<T, N> {
-    ghost laws = { on_equiv (λ r. r.items) (lists_equiv T.Eq.laws) };
-}
-
-impl<T: fmt::Debug, const N: usize> fmt::Debug for Row<T, N> {
-    fn fmt<W: fmt::Write>(&self, f: &mut fmt::Formatter<W>) -> fmt::Result {
-        f.debug_list().entries(self.as_slice()).finish()
-    }
-}
+impl<T: Copy, const N: usize> Copy for Row<T, N> {}

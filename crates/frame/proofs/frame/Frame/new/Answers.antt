@@ -2,11 +2,12 @@
 use Rattle.std.proofs.Common.{◌≡◌, ◌≤◌, length, ap, ◌∙◌, arith, rules}
 use Rattle.frame.specs.Good.{all_bytes}
 use Rattle.frame.proofs.GoodLaws.{all_bytes_from}
+use Rattle.row.specs.Items.{items}
 use Rattle.frame.proofs.frame.Frame.new.Goals as goal
 
-pub invariant_of-result : goal.invariant_of-result
-invariant_of-result c =
-    let same : c.in_ok-ok.field-0.items ≡ c.args.bytes.now = search rules in
+pub invariant_of-frame : goal.invariant_of-frame
+invariant_of-frame c =
+    let same : items c.extend_from_slice.new.self ≡ c.args.bytes.now = search rules in
     let few : length c.args.bytes.now ≤ 8 = search rules in
     record {
       good = (omega arith, omega (arith, ap length same));

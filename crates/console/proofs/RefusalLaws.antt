@@ -1,6 +1,6 @@
 -- Letters judged: by name, by length, and byte by byte. The main results are `good_or_refused` and `refused_in_order`.
 -- Assumes nothing.
-use Rattle.std.proofs.Common.{◌≡◌, ℕ, zero, suc, ◌+◌, ◌<◌, ◌≤◌, true, cond, List, [], ◌∷◌, length, get_or, drop, Some, None, Option, refl, ◌∙◌, add-one, arith, le-ltb, lt-ltb}
+use Rattle.std.proofs.Common.{◌≡◌, ℕ, zero, suc, ◌+◌, ◌<◌, ◌≤◌, true, cond, List, [], ◌∷◌, length, get_or, drop, Some, None, Option, refl, ap, ◌∙◌, add-one, arith, le-ltb, lt-ltb}
 use native.Mathlib.Numerals.{suc-eq-add-one}
 use Rattle.std.proofs.lemmas.List.{at_drop_more, at_drop_all}
 use Rattle.std.proofs.lemmas.Bool.Decides.{nat_tests}
@@ -9,8 +9,9 @@ use Rattle.std.specs.List.{AllByRecursion}
 use Rattle.frame.specs.Contents.{contents}
 use Rattle.frame.specs.Good.{good}
 use Rattle.frame.specs.declared.frame.Frame.{Frame}
-use Rattle.console.specs.Laws.{GoodOrRefused, RefusedInOrder}
-use Rattle.console.specs.Refusals.{bad_byte, bad_letter}
+use Rattle.console.specs.Laws.{GoodOrRefused, RefusedAt, RefusedInOrder}
+use Rattle.console.specs.Refusals.{bad_byte, bad_letter, refusal_place}
+use Rattle.console.specs.declared.refusal.Refusal.{Refusal}
 use Rattle.console.specs.declared.refusal.Refusal.TheVariants.{Name, Count, Byte}
 
 -- ---- one byte after the other
@@ -100,9 +101,12 @@ good_front : (bs : List ℕ) (i : ℕ) → i ≤ length bs → ((j : ℕ) → j 
 good_front bs zero h good = good_to_none bs
 good_front bs (suc i) h good = rw (suc-eq-add-one i) (good_to_more bs i (good_front bs i (omega arith) (λ j less. good j (omega arith))) (omega arith) (good i (omega arith)))
 
+placed : (n : ℕ) (bs : List ℕ) (x : Refusal) → bad_letter n bs ≡ Some x → (bad_letter n bs ≡ Some x) × RefusedAt (refusal_place x) n bs
+placed n bs x is = (is, ap (option_map refusal_place) is)
+
 pub refused_in_order : RefusedInOrder
 refused_in_order n bs = record {
-  name = bad_name n bs;
-  many = bad_length n bs;
-  byte = λ i small short inside large before. bad_bytes n bs small short ∙ bad_at bs i (good_front bs i (omega arith) before) inside large;
+  name = λ large. placed n bs _ (bad_name n bs large);
+  many = λ small long. placed n bs _ (bad_length n bs small long);
+  byte = λ i small short inside large before. placed n bs _ (bad_bytes n bs small short ∙ bad_at bs i (good_front bs i (omega arith) before) inside large);
 }

@@ -1,6 +1,6 @@
 -- What becomes of a line: what is answered and kept after a letter, of which capping the numbers changes nothing, since a number
--- that is capped is too large in any case (`after_good`, `after_bad`), and after `line` (`after_line`, `after_no_line`); and which
--- letter is the current one after any lines (`line_of_last`).
+-- that is capped is too large in any case (`after_good`, `after_bad`), and after `line` (`after_line`); and which letter is the current
+-- one after any lines (`line_of_last`).
 -- Assumes nothing.
 use Rattle.std.proofs.Common.{◌≡◌, ℕ, zero, suc, ◌-◌, ◌^◌, ◌<◌, cond, ltb, List, [], ◌∷◌, ◌++◌, map, length, take, set, replicate, Some, None, Ok, Err, Option, Result, sym, refl, ap, ◌∙◌, ap₂, arith}
 use Rattle.std.proofs.lemmas.List.{get_or-set_same, length-map, length-set}
@@ -105,20 +105,12 @@ after_unreadable p (letter n bs) k says = cc
 after_unreadable p current_line k says = cc
 after_unreadable p unreadable k says = record { answered = refl; kept = refl }
 
-pub after_line : (p : ℕ) (r : Reading) (k : State) (f : Frame) (l : Line) → Says (Some Command.Line) (capped_reading r) → option_map contents (Some f) ≡ current_letter k → line_bits l ≡ line f.id (frame_data f)
-    → Becomes p r k (Ok (Some l)) k
+pub after_line : (p : ℕ) (r : Reading) (k : State) (a : Result (Option Line) Refusal) → Says (Some Command.Line) (capped_reading r) → reply a ≡ line_reply p (current_letter k) → Becomes p r k a k
 unfolding answer after
-after_line p blank k f l says current made = cc
-after_line p (letter n bs) k f l says current made = cc
-after_line p current_line k f l says current made = record { answered = ap bits made ∙ ap (line_reply p) current; kept = refl }
-after_line p unreadable k f l says current made = cc
-
-pub after_no_line : (p : ℕ) (r : Reading) (k : State) → Says (Some Command.Line) (capped_reading r) → None ≡ current_letter k → Becomes p r k (Err (Unreadable p)) k
-unfolding answer after
-after_no_line p blank k says none = cc
-after_no_line p (letter n bs) k says none = cc
-after_no_line p current_line k says none = record { answered = ap (line_reply p) none; kept = refl }
-after_no_line p unreadable k says none = cc
+after_line p blank k a says is = cc
+after_line p (letter n bs) k a says is = cc
+after_line p current_line k a says is = record { answered = is; kept = refl }
+after_line p unreadable k a says is = cc
 
 -- a letter that was read, and judged with its numbers capped
 module _ (p : ℕ) (k : State) (x : Declared.Letter) where

@@ -14,8 +14,9 @@
 --                      is said of every letter
 --   Good n bs          a letter of which a good frame can be made, and none of its bytes is above 255
 --   GoodOrRefused      a letter is good if and only if it is not refused
---   InOrder n bs       what is refused of a letter, in the order of the questions
---   RefusedInOrder     a name that is too large is refused first; else too many bytes, with how many they are; else the first
+--   RefusedAt p n bs   the letter with the name n and the bytes bs is refused at the place p
+--   InOrder n bs       what is refused of a letter, and at which place, in the order of the questions
+--   RefusedInOrder     a name that is too large is refused first, at 0; else too many bytes, with how many they are; else the first
 --                      byte that is too large, with its place
 --   RefusedSame        what is refused changes nothing
 --   after_all rs k     what is kept after lines that were read as rs, where k was kept
@@ -26,12 +27,13 @@
 --   Examples           some lines, and what they say or why they are refused
 use Rattle.std.specs.Prelude.{◌≡◌, ℕ, ◌<◌, ◌≤◌, true, List, [], ◌∷◌, ◌++◌, map, length, Some, None, codes, Option, ◌≢◌, slice_index}
 use Rattle.std.specs.List.{AllByRecursion}
+use Rattle.std.specs.Option.{option_map}
 use Rattle.frame.specs.Good.{good}
 use Rattle.console.specs.Answers.{answer, line_reply, refused, reply_text}
 use Rattle.console.specs.Commands.{Holds}
 use Rattle.console.specs.Numeral.{numeral, value}
 use Rattle.console.specs.Reading.{Reading, reading, blank, letter, current_line, unreadable}
-use Rattle.console.specs.Refusals.{bad_letter}
+use Rattle.console.specs.Refusals.{bad_letter, refusal_place}
 use Rattle.console.specs.Sessions.{State, no_letters, unless_refused, after}
 use Rattle.console.specs.Words.{words, spaced}
 use Rattle.console.specs.declared.numbers.Numbers.{Numbers}
@@ -77,10 +79,13 @@ pub record Good (n : ℕ) (bs : List ℕ) : Type 0 where
 abbrev pub GoodOrRefused : Type 0
 GoodOrRefused = (n : ℕ) (bs : List ℕ) → (Good n bs → bad_letter n bs ≡ None) × (bad_letter n bs ≡ None → Good n bs)
 
+abbrev pub RefusedAt : ℕ → ℕ → List ℕ → Type 0
+RefusedAt p n bs = option_map refusal_place (bad_letter n bs) ≡ Some p
+
 pub record InOrder (n : ℕ) (bs : List ℕ) : Type 0 where
-  pub name : 2047 < n → bad_letter n bs ≡ Some Name
-  pub many : n ≤ 2047 → 8 < length bs → bad_letter n bs ≡ Some (Count (length bs))
-  pub byte : (i : ℕ) → n ≤ 2047 → length bs ≤ 8 → i < length bs → 255 < slice_index bs i → ((j : ℕ) → j < i → slice_index bs j ≤ 255) → bad_letter n bs ≡ Some (Byte i)
+  pub name : 2047 < n → (bad_letter n bs ≡ Some Name) × RefusedAt 0 n bs
+  pub many : n ≤ 2047 → 8 < length bs → (bad_letter n bs ≡ Some (Count (length bs))) × RefusedAt (length bs) n bs
+  pub byte : (i : ℕ) → n ≤ 2047 → length bs ≤ 8 → i < length bs → 255 < slice_index bs i → ((j : ℕ) → j < i → slice_index bs j ≤ 255) → (bad_letter n bs ≡ Some (Byte i)) × RefusedAt i n bs
 
 abbrev pub RefusedInOrder : Type 0
 RefusedInOrder = (n : ℕ) (bs : List ℕ) → InOrder n bs
@@ -119,8 +124,10 @@ pub record Examples : Type 0 where
   pub line_name : reading (codes "line 5") ≡ unreadable
   pub large_name : answer 7 (reading (codes "letter 2048: 256")) no_letters ≡ refused Name
   pub nine_bytes : answer 7 (reading (codes "letter 2047: 1 2 3 4 5 6 7 8 256")) no_letters ≡ refused (Count 9)
+  pub large_name_text : reply_text (answer 7 (reading (codes "letter 2048: 256")) no_letters) ≡ codes "refused 1 at 0\n"
   pub large_byte : answer 7 (reading (codes "letter 5: 1 256 257")) no_letters ≡ refused (Byte 1)
   pub no_command : answer 7 (reading (codes "lettre 5: 1")) no_letters ≡ refused (Unreadable 7)
+  pub no_command_text : reply_text (answer 7 (reading (codes "lettre 5: 1")) no_letters) ≡ codes "refused 4 at 7\n"
   pub line_at_first : answer 7 (reading (codes "line")) no_letters ≡ refused (Unreadable 7)
   pub line_of_5 :
       reply_text (answer 1 (reading (codes "line")) (after (reading (codes "letter 5: 1")) no_letters))

@@ -1,12 +1,14 @@
 // A session made, and lines answered.
-ghost use Rattle.std.specs.Prelude.{◌≡◌, IfOk};
+ghost use Rattle.std.specs.Prelude.{◌≡◌, ℕ, IfOk, Some};
 ghost use Rattle.std.specs.Option.{option_map};
 ghost use Rattle.frame.specs.Contents.{contents, frame_data};
-ghost use Rattle.console.specs.Answers.{answer, reply};
-ghost use Rattle.console.specs.Reading.{reading};
+ghost use Rattle.console.specs.Answers.{answer, line_reply, reply};
+ghost use Rattle.console.specs.Commands.{SaysLetter, capped_reading};
+ghost use Rattle.console.specs.Reading.{Reading, reading};
 ghost use Rattle.console.specs.Sessions.{state, current_letter, no_letters, kept_letter, after};
 
 use crate::command::{Command, read_command};
+use crate::letter::Letter;
 use crate::refusal::Refusal;
 use crate::session::Session;
 use frame::{Frame, LARGEST_ID, Line};
@@ -34,17 +36,32 @@ impl Session {
         ensures answer { reply result ≡ answer place (reading text.now) (state self.old) }
         ensures kept { state self.new ≡ after (reading text.now) (state self.old) }
     {
-        match read_command(text).ok_or(Refusal::Unreadable(place))? {
+        let Some(command) = read_command(text) else {
+            return Err(Refusal::Unreadable(place));
+        };
+        // A letter and `line` have functions of their own: here, what these hold would be made ready for every line, a blank one too.
+        match command {
             Command::Blank => Ok(None),
-            Command::Letter(letter) => {
-                self.keep(Frame::try_from(letter)?);
-                Ok(None)
-            }
-            Command::Line => {
-                let frame = self.current_letter().ok_or(Refusal::Unreadable(place))?;
-                Ok(Some(Line::from(&frame)))
-            }
+            Command::Letter(letter) => self.letter(letter),
+            Command::Line => self.line(place),
         }
+    }
+
+    // Keeps the letter, if it is good, and says what is answered to whatever was read as it.
+    fn letter(&mut self, letter: Letter) -> Result<Option<Line>, Refusal>
+        ensures answer { (p : ℕ) (r : Reading) → SaysLetter (Some letter) (capped_reading r) → reply result ≡ answer p r (state self.old) }
+        ensures kept { (r : Reading) → SaysLetter (Some letter) (capped_reading r) → state self.new ≡ after r (state self.old) }
+    {
+        self.keep(Frame::try_from(letter)?);
+        Ok(None)
+    }
+
+    // The current letter's line, or a refusal where there is no such letter.
+    fn line(&self, place: u64) -> Result<Option<Line>, Refusal>
+        ensures { reply result ≡ line_reply place (current_letter (state self.now)) }
+    {
+        let frame = self.current_letter().ok_or(Refusal::Unreadable(place))?;
+        Ok(Some(Line::from(&frame)))
     }
 
     // The letter that was kept last. A current name has its letter in the table, so that only the first `?` is ever taken.

@@ -6,13 +6,11 @@ use Rattle.std.proofs.Common.{◌≡◌, ℕ, zero, suc, ◌-◌, ◌^◌, ◌<�
 use Rattle.std.proofs.lemmas.List.{get_or-set_same, length-map, length-set}
 use Rattle.std.proofs.lemmas.Bool.Decides.{nat_tests}
 use Rattle.std.proofs.lemmas.Grind.{common_steps}
-use Rattle.std.specs.Option.{option_map}
-use Rattle.frame.specs.Contents.{contents, frame_data, line_bits}
-use Rattle.frame.specs.Line.{line}
+use Rattle.frame.specs.Contents.{frame_data}
 use Rattle.frame.specs.declared.frame.Frame.{Frame}
 use Rattle.frame.specs.declared.line.Line.{Line}
 use Rattle.console.proofs.RefusalLaws.{bad_byte_none, bad_letter_none}
-use Rattle.console.specs.Answers.{answer, bits, line_reply, refused, reply, reply_of}
+use Rattle.console.specs.Answers.{answer, line_reply, refused, reply, reply_of}
 use Rattle.console.specs.Commands.{Holds, Says, capped_reading}
 use Rattle.console.specs.Laws.{RefusedSame, LineOfLast, after_all, last_good, newer}
 use Rattle.console.specs.Numeral.{capped}
